@@ -1,0 +1,52 @@
+-- One home more or fewer: what it does to a list of counts.
+use mathlib.Core.Path.{_≡_, refl, ap}
+use mathlib.Core.List.{List, [], _∷_}
+use Prim.Native.Nat.{ℕ, zero, suc, _+_, _-_, _<_, _≤_}
+use native.Mathlib.Omega.{arith}
+use lib.ListN.{length, getD, set}
+use Rattle.composition.specs.Counts.{total, count, raised, lowered}
+use Rattle.composition.specs.Types.{position}
+use Rattle.composition.specs.declared.demand_type.DemandType.{DemandType}
+use Rattle.composition.specs.declared.demand_type.DemandType.the-variants.{One, Two, Three, Four}
+
+pub position-below : (k : DemandType) → position k < 4
+position-below One = omega arith
+position-below Two = omega arith
+position-below Three = omega arith
+position-below Four = omega arith
+
+pub length-raised : (i : ℕ) (ns : List ℕ) → length (raised i ns) ≡ length ns
+length-raised i [] = refl
+length-raised zero (n ∷ ns) = refl
+length-raised (suc i) (n ∷ ns) = ap suc (length-raised i ns)
+
+pub length-lowered : (i : ℕ) (ns : List ℕ) → length (lowered i ns) ≡ length ns
+length-lowered i [] = refl
+length-lowered zero (n ∷ ns) = refl
+length-lowered (suc i) (n ∷ ns) = ap suc (length-lowered i ns)
+
+pub total-raised : (i : ℕ) (ns : List ℕ) → i < length ns → total (raised i ns) ≡ total ns + 1
+total-raised i [] h = absurd (omega arith)
+total-raised zero (n ∷ ns) h = omega arith
+total-raised (suc i) (n ∷ ns) h = let t : total (raised i ns) ≡ total ns + 1 = total-raised i ns (omega arith) in omega arith
+
+pub total-lowered : (i : ℕ) (ns : List ℕ) → 0 < count i ns → total (lowered i ns) + 1 ≡ total ns
+total-lowered i [] h = absurd (omega arith)
+total-lowered zero (n ∷ ns) h = omega arith
+total-lowered (suc i) (n ∷ ns) h = let t : total (lowered i ns) + 1 ≡ total ns = total-lowered i ns h in omega arith
+
+pub count-le-total : (i : ℕ) (ns : List ℕ) → count i ns ≤ total ns
+count-le-total i [] = omega arith
+count-le-total zero (n ∷ ns) = omega arith
+count-le-total (suc i) (n ∷ ns) = let t : count i ns ≤ total ns = count-le-total i ns in omega arith
+
+-- as a program writes it: the count at the position goes up by one, the others stay
+pub set-raised : (i : ℕ) (ns : List ℕ) → set ns i (count i ns + 1) ≡ raised i ns
+set-raised i [] = refl
+set-raised zero (n ∷ ns) = refl
+set-raised (suc i) (n ∷ ns) = ap (λ ms. n ∷ ms) (set-raised i ns)
+
+pub set-lowered : (i : ℕ) (ns : List ℕ) → set ns i (count i ns - 1) ≡ lowered i ns
+set-lowered i [] = refl
+set-lowered zero (n ∷ ns) = refl
+set-lowered (suc i) (n ∷ ns) = ap (λ ms. n ∷ ms) (set-lowered i ns)

@@ -1,0 +1,4 @@
+pub mod Counts
+pub mod Made
+pub mod Types
+pub mod Refusals

@@ -1,0 +1,20 @@
+// A group of homes: how many there are of each demand type, at most 24 in all.
+ghost use Prim.Native.Nat.{_≤_};
+ghost use mathlib.Core.Path.{_≡_};
+ghost use lib.ListN.{length};
+ghost use Rattle.composition.specs.Counts.{total};
+
+mod changing;
+mod making;
+mod placing;
+
+#[derive(Clone, Copy)]
+pub struct Composition {
+    counts: [u8; 4],
+    ghost four: { length counts ≡ 4 },
+    ghost few: { total counts ≤ 24 },
+}
+
+// More than 24 homes in all.
+#[derive(Clone, Copy)]
+pub struct TooManyHomes;

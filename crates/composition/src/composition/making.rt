@@ -1,0 +1,49 @@
+// Making a composition, and what it tells of itself.
+ghost use Prim.Native.Nat.{_≤_, _<_};
+ghost use mathlib.Core.Path.{_≡_};
+ghost use Rattle.composition.specs.Counts.{total};
+ghost use Rattle.composition.specs.Made.{Made};
+ghost use Rattle.composition.specs.Refusals.{too-many-homes};
+use super::Composition;
+use super::TooManyHomes;
+
+impl Composition {
+    // A group with these counts, or a refusal if there are more than 24 homes in all.
+    pub fn new(counts: [u8; 4]) -> Result<Composition, TooManyHomes>
+        ensures { λ r. ⌜ Made counts r ⌝ }
+    {
+        if homes_in(&counts) > 24 {
+            return Err(TooManyHomes);
+        }
+        Ok(Composition { counts })
+    }
+
+    // How many homes of each type.
+    pub fn counts(&self) -> [u8; 4]
+        ensures { λ r. ⌜ r ≡ now (self .entry) .counts ⌝ }
+    {
+        self.counts
+    }
+
+    // How many homes in all.
+    pub fn homes(&self) -> u8
+        ensures { λ r. ⌜ r ≡ total (now (self .entry) .counts) ⌝ }
+    {
+        homes_in(&self.counts) as u8
+    }
+}
+
+fn homes_in(counts: &[u8; 4]) -> u16
+    ensures { λ r. ⌜ r ≡ total (now (counts .entry)) ⌝ }
+{
+    let [a, b, c, d] = *counts;
+    u16::from(a) + u16::from(b) + u16::from(c) + u16::from(d)
+}
+
+impl TooManyHomes {
+    pub fn number(self) -> u8
+        ensures { λ r. ⌜ r ≡ too-many-homes ⌝ }
+    {
+        8
+    }
+}

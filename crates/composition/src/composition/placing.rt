@@ -1,0 +1,65 @@
+// Where the groups inside a group stand in a table.
+ghost use Prim.Native.Nat.{_+_, _/_, _%_};
+ghost use mathlib.Core.Path.{_≡_};
+ghost use Rattle.composition.specs.Counts.{size, place, at-place, step};
+ghost use Rattle.composition.specs.Types.{position};
+use super::Composition;
+use crate::demand_type::DemandType;
+
+impl Composition {
+    // How many groups lie inside this one, itself and the empty one among them.
+    pub fn size(&self) -> usize
+        ensures { λ r. ⌜ r ≡ size (now (self .entry) .counts) ⌝ }
+    {
+        let [a, b, c, d] = self.counts;
+        (a as usize + 1) * ((b as usize + 1) * ((c as usize + 1) * (d as usize + 1)))
+    }
+
+    // The place of a group inside this one.
+    pub fn place(&self, of: &Composition) -> usize
+        ensures { λ r. ⌜ r ≡ place (now (self .entry) .counts) (now (of .entry) .counts) ⌝ }
+    {
+        let [a, b, c, _] = self.counts;
+        let [w, x, y, z] = of.counts;
+        let rest = y as usize + (c as usize + 1) * z as usize;
+        let rest = x as usize + (b as usize + 1) * rest;
+        w as usize + (a as usize + 1) * rest
+    }
+
+    // The group at a place inside this one.
+    pub fn at(&self, place: usize) -> Composition
+        ensures { λ r. ⌜ r .counts ≡ at-place (now (self .entry) .counts) place ⌝ }
+    {
+        let [a, b, c, d] = self.counts;
+        let (w, left) = digit(place, a);
+        let (x, left) = digit(left, b);
+        let (y, left) = digit(left, c);
+        let (z, _) = digit(left, d);
+        Composition {
+            counts: [w, x, y, z],
+        }
+    }
+
+    // How many places further on a group with one home more of a type stands.
+    pub fn step(&self, of: DemandType) -> usize
+        ensures { λ r. ⌜ r ≡ step (position of) (now (self .entry) .counts) ⌝ }
+    {
+        let [a, b, c, _] = self.counts;
+        let (a, b, c) = (a as usize + 1, b as usize + 1, c as usize + 1);
+        match of {
+            DemandType::One => 1,
+            DemandType::Two => a,
+            DemandType::Three => a * b,
+            DemandType::Four => a * (b * c),
+        }
+    }
+}
+
+// The count that a place gives to a type with at most `most` homes, and what is left of the place for the types after it.
+fn digit(place: usize, most: u8) -> (u8, usize)
+    ensures count { λ r. ⌜ r .0 ≡ place % (most + 1) ⌝ }
+    ensures left { λ r. ⌜ r .1 ≡ place / (most + 1) ⌝ }
+{
+    let radix = most as usize + 1;
+    ((place % radix) as u8, place / radix)
+}

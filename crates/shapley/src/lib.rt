@@ -1,0 +1,1 @@
+// Shares by Shapley value, as whole numbers over a least common multiple.
