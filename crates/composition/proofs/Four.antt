@@ -1,11 +1,13 @@
 -- Lists of four counts.
 use mathlib.Core.Path.{_≡_, refl}
+use mathlib.Core.Bool.{Bool, true, false, _&&_}
 use mathlib.Core.List.{List, [], _∷_}
 use Prim.Native.Nat.{ℕ, zero, suc, _+_, _*_, _/_, _%_}
 use native.Mathlib.Nat.{mul-one, mul-zero, add-zero}
 use native.Mathlib.Omega.{arith}
+use lib.Dec.{leb}
 use lib.ListN.{length, getD}
-use Rattle.composition.specs.Counts.{total, size, place, at-place, step}
+use Rattle.composition.specs.Counts.{total, fits, size, place, at-place, step, Inside, nobody}
 use Rattle.composition.specs.Types.{position}
 use Rattle.composition.specs.declared.demand_type.DemandType.{DemandType}
 use Rattle.composition.specs.declared.demand_type.DemandType.the-variants.{One, Two, Three, Four}
@@ -61,3 +63,24 @@ step-four One ms h = rw (split4 0 ms h)
 step-four Two ms h = rw (split4 0 ms h) (simp mul-one)
 step-four Three ms h = rw (split4 0 ms h) (simp mul-one)
 step-four Four ms h = rw (split4 0 ms h) (simp mul-one)
+
+pub fits-four :
+    (ns ms : List ℕ)
+    → length ns ≡ 4
+    → length ms ≡ 4
+    → fits ns ms
+    ≡ (leb (getD ns 0 0) (getD ms 0 0) && (leb (getD ns 1 0) (getD ms 1 0) && (leb (getD ns 2 0) (getD ms 2 0) && leb (getD ns 3 0) (getD ms 3 0))))
+fits-four ns ms h k = rw (split4 0 ns h, split4 0 ms k) (rw (and-true (leb (getD ns 3 0) (getD ms 3 0))))
+  where
+    and-true : (b : Bool) → (b && true) ≡ b
+    and-true true = refl
+    and-true false = refl
+
+-- nobody lies inside every group, at the first place
+pub nobody-inside : (ms : List ℕ) → length ms ≡ 4 → Inside nobody ms
+nobody-inside ms h =
+    let within : (a b c d : ℕ) → Inside nobody (a ∷ b ∷ c ∷ d ∷ []) = λ a b c d. (omega arith, (omega arith, (omega arith, (omega arith, tt)))) in
+    rw (split4 0 ms h) (within _ _ _ _)
+
+pub nobody-place : (ms : List ℕ) → length ms ≡ 4 → place ms nobody ≡ 0
+nobody-place ms h = rw (split4 0 ms h) (simp (mul-zero, add-zero))

@@ -1,12 +1,15 @@
 -- Places: every group inside another has one of its own, and every place below the size is some group's.
 use mathlib.Core.Path.{_≡_, refl, sym, _∙_, ap}
+use mathlib.Core.Bool.{true}
 use mathlib.Core.List.{List, [], _∷_}
 use Prim.Native.Nat.{ℕ, zero, suc, _+_, _-_, _*_, _/_, _%_, _<_, _≤_}
 use native.Mathlib.Omega.{arith}
-use native.Mathlib.Nat.{mul-comm, mul-add, mul-one, mul-assoc, mul-le-mul-left}
+use native.Mathlib.Nat.{mul-comm, mul-add, mul-le-mul-left, mul-pos}
+use lib.Dec.{leb}
 use lib.ListN.{length}
 use Rattle.std.proofs.shelf.Bits.{mod-below, div-below, div-add-mod', div-mul-add, mod-mul-add}
-use Rattle.composition.specs.Counts.{total, size, place, at-place, step, Inside, raised}
+use Rattle.std.proofs.shelf.Tests.{and-parts, and-from, leb-true, le-leb}
+use Rattle.composition.specs.Counts.{total, size, fits, place, at-place, step, Inside, raised}
 
 pub inside-length : (ns ms : List ℕ) → Inside ns ms → length ns ≡ length ms
 inside-length [] [] h = refl
@@ -40,6 +43,10 @@ place-below (m ∷ ms) (n ∷ ns) h =
     let t : (m + 1) * (place ms ns + 1) ≤ (m + 1) * size ms = mul-le-mul-left (m + 1) b in
     omega (arith, h .0, t)
 
+pub size-above-none : (ms : List ℕ) → 0 < size ms
+size-above-none [] = omega arith
+size-above-none (m ∷ ms) = mul-pos (omega arith) (size-above-none ms)
+
 -- the group at a place has that place
 pub place-at-place : (ms : List ℕ) (p : ℕ) → p < size ms → place ms (at-place ms p) ≡ p
 place-at-place [] p h = omega arith
@@ -69,3 +76,18 @@ place-raised i (m ∷ ms) [] h e = absurd (omega arith)
 place-raised zero (m ∷ ms) (n ∷ ns) h e = omega arith
 place-raised (suc i) (m ∷ ms) (n ∷ ns) h e =
     rw (place-raised i ms ns (omega arith) (omega arith)) (omega (arith, mul-add (m + 1) (place ms ns) (step i ms)))
+
+-- the test tells what it is for a group to lie inside another
+pub fits-inside : (ns ms : List ℕ) → fits ns ms ≡ true → Inside ns ms
+fits-inside [] [] h = tt
+fits-inside [] (m ∷ ms) h = let z : _≡_ {A = ℕ} 0 1 = cc in absurd (omega arith)
+fits-inside (n ∷ ns) [] h = let z : _≡_ {A = ℕ} 0 1 = cc in absurd (omega arith)
+fits-inside (n ∷ ns) (m ∷ ms) h =
+    let parts = and-parts (leb n m) (fits ns ms) h in
+    (omega (arith, leb-true n m (parts .0)), fits-inside ns ms (parts .1))
+
+pub inside-fits : (ns ms : List ℕ) → Inside ns ms → fits ns ms ≡ true
+inside-fits [] [] h = refl
+inside-fits [] (m ∷ ms) h = absurd h
+inside-fits (n ∷ ns) [] h = absurd h
+inside-fits (n ∷ ns) (m ∷ ms) h = and-from (leb n m) (fits ns ms) (le-leb n m (h .0)) (inside-fits ns ms (h .1))

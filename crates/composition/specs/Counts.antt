@@ -1,6 +1,8 @@
 -- Groups of homes as lists of counts, one count a type, and the places that they have in a table.
 use mathlib.Core.Path.{_≡_}
+use mathlib.Core.Bool.{Bool, true, false, _&&_}
 use mathlib.Core.List.{List, [], _∷_}
+use lib.Dec.{leb}
 use lib.ListN.{getD}
 use Prim.Native.Nat.{ℕ, zero, suc, _+_, _-_, _*_, _/_, _%_, _≤_}
 
@@ -8,6 +10,10 @@ use Prim.Native.Nat.{ℕ, zero, suc, _+_, _-_, _*_, _/_, _%_, _≤_}
 abbrev pub total : List ℕ → ℕ
 total [] = 0
 total (n ∷ ns) = n + total ns
+
+-- the group of no homes
+abbrev pub nobody : List ℕ
+nobody = 0 ∷ 0 ∷ 0 ∷ 0 ∷ []
 
 -- how many groups there are inside: each count may be anything from 0 up to its own
 abbrev pub size : List ℕ → ℕ
@@ -20,6 +26,13 @@ Inside [] [] = Unit {0}
 Inside [] (m ∷ ms) = ⊥
 Inside (n ∷ ns) [] = ⊥
 Inside (n ∷ ns) (m ∷ ms) = (n ≤ m) × Inside ns ms
+
+-- the test whether the first group lies inside the second
+abbrev pub fits : List ℕ → List ℕ → Bool
+fits [] [] = true
+fits [] (m ∷ ms) = false
+fits (n ∷ ns) [] = false
+fits (n ∷ ns) (m ∷ ms) = leb n m && fits ns ms
 
 -- the place of a group inside a larger one, the first count running fastest
 abbrev pub place : List ℕ → List ℕ → ℕ

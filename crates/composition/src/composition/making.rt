@@ -1,7 +1,7 @@
 // Making a composition, and what it tells of itself.
 ghost use Prim.Native.Nat.{_≤_, _<_};
 ghost use mathlib.Core.Path.{_≡_};
-ghost use Rattle.composition.specs.Counts.{total};
+ghost use Rattle.composition.specs.Counts.{total, nobody};
 ghost use Rattle.composition.specs.Made.{Made};
 ghost use Rattle.composition.specs.Refusals.{too-many-homes};
 use super::Composition;
@@ -16,6 +16,13 @@ impl Composition {
             return Err(TooManyHomes);
         }
         Ok(Composition { counts })
+    }
+
+    // The group of no homes.
+    pub fn empty() -> Composition
+        ensures { λ r. ⌜ r .counts ≡ nobody ⌝ }
+    {
+        Composition { counts: [0; 4] }
     }
 
     // How many homes of each type.

@@ -1,7 +1,7 @@
 // Where the groups inside a group stand in a table.
 ghost use Prim.Native.Nat.{_+_, _/_, _%_};
 ghost use mathlib.Core.Path.{_≡_};
-ghost use Rattle.composition.specs.Counts.{size, place, at-place, step};
+ghost use Rattle.composition.specs.Counts.{fits, size, place, at-place, step};
 ghost use Rattle.composition.specs.Types.{position};
 use super::Composition;
 use crate::demand_type::DemandType;
@@ -13,6 +13,15 @@ impl Composition {
     {
         let [a, b, c, d] = self.counts;
         (a as usize + 1) * ((b as usize + 1) * ((c as usize + 1) * (d as usize + 1)))
+    }
+
+    // Whether this group lies inside another.
+    pub fn fits(&self, inside: &Composition) -> bool
+        ensures { λ r. ⌜ r ≡ fits (now (self .entry) .counts) (now (inside .entry) .counts) ⌝ }
+    {
+        let [a, b, c, d] = self.counts;
+        let [w, x, y, z] = inside.counts;
+        (a <= w) & ((b <= x) & ((c <= y) & (d <= z)))
     }
 
     // The place of a group inside this one.

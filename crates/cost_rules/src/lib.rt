@@ -1,0 +1,13 @@
+// Rules that say what a group of homes costs, behind one interface.
+mod cost_rule;
+mod fault;
+mod listed;
+mod sum;
+
+pub use cost_rule::CostRule;
+pub use fault::Fault;
+pub use listed::ListedRefusal;
+pub use listed::ListedRule;
+pub use listed::ListedRuleCost;
+pub use sum::SumRule;
+pub use sum::SumRuleCost;
