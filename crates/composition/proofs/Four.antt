@@ -2,7 +2,7 @@
 use mathlib.Core.Path.{_≡_, refl}
 use mathlib.Core.Bool.{Bool, true, false, _&&_}
 use mathlib.Core.List.{List, [], _∷_}
-use Prim.Native.Nat.{ℕ, zero, suc, _+_, _*_, _/_, _%_}
+use Prim.Native.Nat.{ℕ, zero, suc, _+_, _*_, _/_, _%_, _<_}
 use native.Mathlib.Nat.{mul-one, mul-zero, add-zero}
 use native.Mathlib.Omega.{arith}
 use lib.Dec.{leb}
@@ -84,3 +84,11 @@ nobody-inside ms h =
 
 pub nobody-place : (ms : List ℕ) → length ms ≡ 4 → place ms nobody ≡ 0
 nobody-place ms h = rw (split4 0 ms h) (simp (mul-zero, add-zero))
+
+-- what holds at each of four positions
+pub each-of-four : (P : ℕ → Type 0) → P 0 → P 1 → P 2 → P 3 → (i : ℕ) → i < 4 → P i
+each-of-four P a b c d zero h = a
+each-of-four P a b c d (suc zero) h = b
+each-of-four P a b c d (suc (suc zero)) h = c
+each-of-four P a b c d (suc (suc (suc zero))) h = d
+each-of-four P a b c d (suc (suc (suc (suc i)))) h = absurd (omega arith)

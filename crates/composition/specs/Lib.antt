@@ -1,3 +1,4 @@
+pub mod Amounts
 pub mod Counts
 pub mod Made
 pub mod Types

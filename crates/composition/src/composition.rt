@@ -4,6 +4,7 @@ ghost use mathlib.Core.Path.{_≡_};
 ghost use lib.ListN.{length};
 ghost use Rattle.composition.specs.Counts.{total};
 
+mod adding;
 mod changing;
 mod making;
 mod placing;

@@ -1,11 +1,15 @@
 // Rules that say what a group of homes costs, behind one interface.
 mod cost_rule;
 mod fault;
+mod head;
 mod listed;
 mod sum;
 
 pub use cost_rule::CostRule;
 pub use fault::Fault;
+pub use head::FeeOutside;
+pub use head::HeadRule;
+pub use head::HeadRuleCost;
 pub use listed::ListedRefusal;
 pub use listed::ListedRule;
 pub use listed::ListedRuleCost;

@@ -1,0 +1,39 @@
+// Making a head rule.
+ghost use mathlib.Core.Path.{_≡_};
+ghost use Rattle.cost_rules.specs.Fees.{IsFee};
+ghost use Rattle.cost_rules.specs.Heads.{HeadMade, Accepts, fee-outside};
+use super::FeeOutside;
+use super::HeadRule;
+use composition::DemandType;
+
+impl HeadRule {
+    // The rule with these fees, or a refusal that names the first type whose fee lies outside the limits.
+    pub fn new(fees: [i32; 4]) -> Result<HeadRule, FeeOutside>
+        ensures { λ r. ⌜ HeadMade fees r ⌝ }
+    {
+        let [one, two, three, four] = fees;
+        accept(one, DemandType::One)?;
+        accept(two, DemandType::Two)?;
+        accept(three, DemandType::Three)?;
+        accept(four, DemandType::Four)?;
+        Ok(HeadRule { fees })
+    }
+}
+
+// Refuses a fee outside the limits, and names its type.
+fn accept(fee: i32, of: DemandType) -> Result<(), FeeOutside>
+    ensures { λ r. ⌜ Accepts fee of r ⌝ }
+{
+    if fee < -1_000_000 || fee > 1_000_000 {
+        return Err(FeeOutside { of });
+    }
+    Ok(())
+}
+
+impl FeeOutside {
+    pub fn number(self) -> u8
+        ensures { λ r. ⌜ r ≡ fee-outside ⌝ }
+    {
+        41
+    }
+}

@@ -1,0 +1,3 @@
+pub mod Integers
+pub mod RoundingLaws
+pub mod Euclid
