@@ -1,0 +1,2 @@
+pub mod BillingLaws
+mod Settlements
