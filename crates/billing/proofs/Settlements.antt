@@ -1,13 +1,17 @@
 -- How the answers of the calls make a settlement.
 use mathlib.Core.Path.{_≡_, sym, subst, _∙_}
 use mathlib.Core.List.{List}
-use Prim.Native.Nat.{ℕ, _*_, _<_}
+use Prim.Native.Nat.{ℕ, _*_, _≤_, _<_}
+use native.Mathlib.Nat.{le-mul-of-pos-right, mul-comm}
 use native.Mathlib.Omega.{arith}
 use lib.IntN.{ℤ, pos, natAbs, _+ℤ_}
 use lib.Signed.{pos-natAbs, yes-nonNeg}
+use Rattle.std.proofs.shelf.Signed.{ints}
 use Rattle.std.specs.Numbers.{remEuclid}
 use Rattle.rounding.specs.Rounding.{RoundedDown}
+use Rattle.rounding.proofs.RoundingLaws.{down-bounds}
 use Rattle.rounding.proofs.Euclid.{remainder-is, remainder-natural}
+use Rattle.composition.specs.Amounts.{Between}
 use Rattle.composition.specs.Counts.{total}
 use Rattle.billing.specs.Billing.{surplus, Settled}
 
@@ -30,3 +34,10 @@ settled-by counts pence cost purse a a′ by q q′ r r′ h p eh ea ea′ eq er
 
     rest : r′ ≡ remEuclid amount (pos size)
     rest = cc
+
+-- a quotient rounded down is no further from 0 than the amount; a′ and q′ are the two as they are read again from their bits
+pub down-between : (m d : ℕ) (a a′ q q′ : ℤ) → 0 < d → Between m a → a′ ≡ a → q′ ≡ q → RoundedDown a′ d q → Between m q′
+down-between m d a a′ q q′ p b ea eq r =
+    let more : m ≤ d * m = rw (mul-comm d m) (le-mul-of-pos-right m p) in
+    subst (Between m) (sym eq)
+    (down-bounds a′ q d m p (rw ea (omega (arith, ints, b .0, more))) (rw ea (omega (arith, ints, b .1, more))) r)

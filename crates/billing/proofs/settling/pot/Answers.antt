@@ -4,4 +4,4 @@ use Rattle.std.proofs.shelf.Signed.{ints}
 use Rattle.billing.proofs.settling.pot.Needs as need
 
 pub returns : need.returns
-returns c = record { value = omega (arith, ints) }
+returns c = record { value = omega (arith, ints); size = (omega (arith, ints), omega (arith, ints)) }

@@ -1,0 +1,36 @@
+// Homes that join and leave.
+ghost use Rattle.account.specs.Calls.{Joined, Left};
+use super::Account;
+use crate::refusals::JoinRefusal;
+use crate::refusals::LeaveRefusal;
+use composition::DemandType;
+
+impl Account {
+    // One home more of the type with this number.
+    pub fn join(&mut self, number: u8) -> Result<(), JoinRefusal>
+        ensures { λ r. ⌜ Joined (now (self .entry)) number r (now (self .exit)) ⌝ }
+    {
+        let Ok(of) = DemandType::numbered(number) else {
+            return Err(JoinRefusal::NoSuchType);
+        };
+        let Ok(homes) = self.homes.with_one(of) else {
+            return Err(JoinRefusal::Full);
+        };
+        self.homes = homes;
+        Ok(())
+    }
+
+    // One home fewer of the type with this number.
+    pub fn leave(&mut self, number: u8) -> Result<(), LeaveRefusal>
+        ensures { λ r. ⌜ Left (now (self .entry)) number r (now (self .exit)) ⌝ }
+    {
+        let Ok(of) = DemandType::numbered(number) else {
+            return Err(LeaveRefusal::NoSuchType);
+        };
+        let Some(homes) = self.homes.without_one(of) else {
+            return Err(LeaveRefusal::NoneThere);
+        };
+        self.homes = homes;
+        Ok(())
+    }
+}
