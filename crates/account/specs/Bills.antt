@@ -3,7 +3,7 @@ use mathlib.Core.Path.{_≡_}
 use mathlib.Core.List.{List}
 use Prim.Native.Nat.{ℕ, _*_, _<_}
 use lib.IntN.{ℤ, pos, _-ℤ_}
-use lib.ListN.{getD}
+use lib.ListN.{length, getD}
 use Rattle.std.specs.declared.option.Option.{Option}
 use Rattle.std.specs.declared.option.Option.the-variants.{Some, None}
 use Rattle.std.specs.declared.result.Result.{Result}
@@ -46,6 +46,7 @@ Line homes share (Some line) = (0 < homes) × (line .0 ≡ share)
 pub record MadeOfShares (c : List ℕ → ℤ) (d : Draft) : Type 0 where
   -- the pence charged to a home of each type before the rebate
   pub pence : List ℤ
+  pub four : length pence ≡ 4
   -- they are the share rounded up to a whole penny
   pub rounded : (k : DemandType) (line : ℤ × ℤ) → line-of d k ≡ Some line → RoundedUp (line .0) (100 * d .lcm) (getD pence (position k) (pos 0))
   -- a bill is that less the rebate

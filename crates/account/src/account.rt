@@ -1,5 +1,6 @@
 // An open account. It comes only from opening one, from a draft that is posted or withdrawn, or back from a refused draft.
 use composition::Composition;
+
 mod drafting;
 mod filling;
 mod membership;

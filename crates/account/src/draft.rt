@@ -3,6 +3,7 @@ ghost use Prim.Native.Nat.{_<_};
 ghost use Rattle.account.specs.Terms.{today};
 use crate::account::Account;
 use crate::refusals::DraftRefusal;
+
 mod billing_homes;
 mod ending;
 mod telling;

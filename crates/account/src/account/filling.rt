@@ -13,7 +13,11 @@ use cost_rules::CostRule;
 
 impl Account {
     // Tests whether a draft may be made, and fills the table for it.
-    pub(crate) fn prepare<R: CostRule>(&self, rule: &R, table: &mut [i64]) -> Result<(), DraftRefusal>
+    pub(crate) fn prepare<R: CostRule>(
+        &self,
+        rule: &R,
+        table: &mut [i64],
+    ) -> Result<(), DraftRefusal>
         ensures { λ r. ⌜ Prepared today (R·CostRule .meaning (now (rule .entry))) (now (self .entry)) (now (table .entry)) r (now (table .exit)) ⌝ }
     {
         if self.homes.homes() == 0 {

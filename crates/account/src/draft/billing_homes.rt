@@ -15,13 +15,13 @@ ghost use Rattle.account.specs.Charges.{Charged, lined};
 ghost use Rattle.account.specs.Terms.{today};
 use super::Draft;
 use crate::account::Account;
-use billing::settle;
 use billing::Charges;
+use billing::settle;
 use composition::DemandType;
-use rounding::round_up;
 use rounding::Divisor;
-use shapley::lcm_to;
+use rounding::round_up;
 use shapley::CostTable;
+use shapley::lcm_to;
 
 impl Draft {
     // The bills of an account's homes, where the table holds what each composition of them costs.
@@ -33,32 +33,58 @@ impl Draft {
         ensures { λ r. ⌜ Billed (costs-by (account .homes .counts) (now (table .entry))) account r ⌝ }
     {
         let homes = account.homes();
+        let costs = CostTable {
+            homes,
+            costs: table,
+        };
         let lcm = lcm_to(&homes);
-        let costs = CostTable { homes, costs: table };
-        let penny = Divisor { value: 100 * lcm };
-        let one = charge(&costs, DemandType::One, penny);
-        let two = charge(&costs, DemandType::Two, penny);
-        let three = charge(&costs, DemandType::Three, penny);
-        let four = charge(&costs, DemandType::Four, penny);
-        let cost = table[homes.place(&homes)];
+        let penny = penny_over(lcm);
+        let one = charge_for(&costs, DemandType::One, penny);
+        let two = charge_for(&costs, DemandType::Two, penny);
+        let three = charge_for(&costs, DemandType::Three, penny);
+        let four = charge_for(&costs, DemandType::Four, penny);
+        let cost = cost_of_all(&costs);
+        let pence = [one.pence, two.pence, three.pence, four.pence];
+        let purse = account.purse();
         let settled = settle(
             &Charges {
                 homes,
-                pence: [one.pence, two.pence, three.pence, four.pence],
-                cost: cost as i32,
-                purse: account.purse(),
+                pence,
+                cost,
+                purse,
             },
         );
         let rebate = settled.rebate;
         Draft {
             account,
             lcm,
-            cost,
+            cost: i64::from(cost),
             rebate,
             purse: settled.purse,
-            lines: [line(one, rebate), line(two, rebate), line(three, rebate), line(four, rebate)],
+            lines: [
+                line(one, rebate),
+                line(two, rebate),
+                line(three, rebate),
+                line(four, rebate),
+            ],
         }
     }
+}
+
+// A penny, as so many parts of a share.
+fn penny_over(lcm: u64) -> Divisor
+    requires some { ⌜ 0 < lcm ⌝ }
+    requires small { ⌜ lcm ≤ 5354228880 ⌝ }
+    ensures { λ r. ⌜ r .value ≡ 100 * lcm ⌝ }
+{
+    Divisor { value: 100 * lcm }
+}
+
+// What all homes cost together.
+fn cost_of_all(costs: &CostTable<'_>) -> i32
+    ensures { λ r. ⌜ r ≡ cost-in (now (costs .entry)) (now (costs .entry) .homes .counts) ⌝ }
+{
+    costs.costs[costs.homes.place(&costs.homes)] as i32
 }
 
 // What a home of a type is charged.
@@ -71,7 +97,7 @@ pub(crate) struct Charge {
 }
 
 // The charge to a home of a type, where a penny is so many parts of a share.
-fn charge(costs: &CostTable<'_>, of: DemandType, penny: Divisor) -> Charge
+fn charge_for(costs: &CostTable<'_>, of: DemandType, penny: Divisor) -> Charge
     requires { ⌜ penny .value ≡ 100 * lcm-to (total (now costs .homes .counts)) ⌝ }
     ensures { λ r. ⌜ Charged (count (position of) (now (costs .entry) .homes .counts)) (share (now (costs .entry) .homes .counts) (position of) (cost-in (now (costs .entry)))) (penny .value) r ⌝ }
 {
@@ -89,7 +115,7 @@ fn charge(costs: &CostTable<'_>, of: DemandType, penny: Divisor) -> Charge
 
 // The line for a charge: the share, and the bill after the rebate.
 fn line(charge: Charge, rebate: i64) -> Option<(i64, i64)>
-    requires { ⌜ Between (2 ^ 53) rebate ⌝ }
+    requires { ⌜ Between (2 ^ 48) rebate ⌝ }
     ensures { λ r. ⌜ r ≡ lined charge rebate ⌝ }
 {
     match charge.share {

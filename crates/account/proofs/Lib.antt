@@ -1,0 +1,2 @@
+pub mod ChargesMade
+pub mod FilledTables

@@ -1,0 +1,11 @@
+pub mod Combinatorics
+pub mod CommonMultiples
+pub mod Integers
+pub mod Places
+pub mod Rows
+pub mod Shapley
+pub mod SubsetsToCounts
+pub mod Sums
+pub mod Terms
+pub mod Tests
+pub mod Weights
