@@ -1,13 +1,17 @@
 // Opening an account, and what an open one tells.
 ghost use mathlib.Core.Path.{_≡_};
 ghost use Rattle.account.specs.Calls.{Opened};
+ghost use Rattle.account.specs.Promise.{Promise};
+ghost use Rattle.account.specs.Terms.{today};
 use super::Account;
 use composition::Composition;
 
 impl Account {
-    // A new account whose last bill has this number: no homes, and nothing in the purse.
+    // A new account whose last bill has this number: no homes, and nothing in the purse. Whatever calls it goes through,
+    // the promise holds: shares are Shapley values, and posted bills are the posted costs and the purse.
     pub fn open_after(last: u16) -> Account
         ensures opened { λ r. ⌜ Opened last r ⌝ }
+        ensures promise { λ _. ⌜ Promise today last ⌝ }
     {
         Account {
             homes: Composition::empty(),
