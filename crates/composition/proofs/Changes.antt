@@ -50,3 +50,20 @@ pub set-lowered : (i : ℕ) (ns : List ℕ) → set ns i (count i ns - 1) ≡ lo
 set-lowered i [] = refl
 set-lowered zero (n ∷ ns) = refl
 set-lowered (suc i) (n ∷ ns) = ap (λ ms. n ∷ ms) (set-lowered i ns)
+
+-- a home that joins and leaves again leaves the counts as they were, and so does one that leaves and comes back
+pub lowered-raised : (i : ℕ) (ns : List ℕ) → lowered i (raised i ns) ≡ ns
+lowered-raised i [] = refl
+lowered-raised zero (n ∷ ns) = ap (λ (x : ℕ). x ∷ ns) (omega arith)
+lowered-raised (suc i) (n ∷ ns) = ap (λ ms. n ∷ ms) (lowered-raised i ns)
+
+pub raised-lowered : (i : ℕ) (ns : List ℕ) → 0 < count i ns → raised i (lowered i ns) ≡ ns
+raised-lowered i [] h = refl
+raised-lowered zero (n ∷ ns) h = ap (λ (x : ℕ). x ∷ ns) (omega arith)
+raised-lowered (suc i) (n ∷ ns) h = ap (λ ms. n ∷ ms) (raised-lowered i ns h)
+
+-- a home that has joined is counted
+pub raised-counted : (i : ℕ) (ns : List ℕ) → i < length ns → 0 < count i (raised i ns)
+raised-counted i [] h = absurd (omega arith)
+raised-counted zero (n ∷ ns) h = omega arith
+raised-counted (suc i) (n ∷ ns) h = raised-counted i ns (omega arith)

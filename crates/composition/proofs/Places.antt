@@ -9,7 +9,7 @@ use lib.Dec.{leb}
 use lib.ListN.{length}
 use Rattle.std.proofs.shelf.Bits.{mod-below, div-below, div-add-mod', div-mul-add, mod-mul-add}
 use Rattle.std.proofs.shelf.Tests.{and-parts, and-from, leb-true, le-leb}
-use Rattle.composition.specs.Counts.{total, size, fits, place, at-place, step, Inside, raised}
+use Rattle.composition.specs.Counts.{total, size, fits, place, at-place, step, Inside, count, raised, lowered}
 
 pub inside-length : (ns ms : List ℕ) → Inside ns ms → length ns ≡ length ms
 inside-length [] [] h = refl
@@ -27,6 +27,30 @@ inside-total (n ∷ ns) (m ∷ ms) h = let t : total ns ≤ total ms = inside-to
 pub inside-self : (ns : List ℕ) → Inside ns ns
 inside-self [] = tt
 inside-self (n ∷ ns) = (omega arith, inside-self ns)
+
+-- a group of the others is a group of all
+pub inside-lowered : (i : ℕ) (ns ms : List ℕ) → Inside ns (lowered i ms) → Inside ns ms
+inside-lowered i ns [] h = h
+inside-lowered zero [] (m ∷ ms) h = absurd h
+inside-lowered zero (n ∷ ns) (m ∷ ms) h = (omega (arith, h .0), h .1)
+inside-lowered (suc i) [] (m ∷ ms) h = absurd h
+inside-lowered (suc i) (n ∷ ns) (m ∷ ms) h = (h .0, inside-lowered i ns ms (h .1))
+
+-- and so it is with the home itself
+pub raised-inside : (i : ℕ) (ns ms : List ℕ) → 0 < count i ms → Inside ns (lowered i ms) → Inside (raised i ns) ms
+raised-inside i ns [] p h = absurd (omega arith)
+raised-inside zero [] (m ∷ ms) p h = absurd h
+raised-inside zero (n ∷ ns) (m ∷ ms) p h = (omega (arith, h .0), h .1)
+raised-inside (suc i) [] (m ∷ ms) p h = absurd h
+raised-inside (suc i) (n ∷ ns) (m ∷ ms) p h = (h .0, raised-inside i ns ms p (h .1))
+
+-- no count is above that of the group outside
+pub inside-count : (i : ℕ) (ns ms : List ℕ) → Inside ns ms → count i ns ≤ count i ms
+inside-count i [] [] h = omega arith
+inside-count i [] (m ∷ ms) h = absurd h
+inside-count i (n ∷ ns) [] h = absurd h
+inside-count zero (n ∷ ns) (m ∷ ms) h = h .0
+inside-count (suc i) (n ∷ ns) (m ∷ ms) h = inside-count i ns ms (h .1)
 
 pub at-place-inside : (ms : List ℕ) (p : ℕ) → Inside (at-place ms p) ms
 at-place-inside [] p = tt

@@ -1,6 +1,5 @@
 pub mod Combinatorics
 pub mod CommonMultiples
-pub mod Integers
 pub mod Places
 pub mod Rows
 pub mod Shapley

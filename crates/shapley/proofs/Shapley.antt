@@ -9,14 +9,16 @@ use lib.IntN.{ℤ, pos, negℤ, _+ℤ_, _-ℤ_, _*ℤ_, *ℤ-comm}
 use lib.ListN.{length, getD}
 use lib.Signed.{_≤ℤ_}
 use Rattle.std.proofs.shelf.Signed.{ints}
+use Rattle.composition.proofs.Changes.{lowered-raised, raised-lowered, raised-counted}
 use Rattle.composition.proofs.Four.{split4}
+use Rattle.composition.proofs.Places.{inside-total, inside-lowered, raised-inside}
 use Rattle.composition.specs.Counts.{total, Inside, raised, lowered}
 use Rattle.composition.specs.Types.{position}
 use Rattle.composition.specs.declared.demand_type.DemandType.{DemandType}
 use Rattle.composition.specs.declared.demand_type.DemandType.the-variants.{One, Two, Three, Four}
 use Rattle.shapley.proofs.Combinatorics.{factorial-pos}
-use Rattle.shapley.proofs.Integers.{*ℤ-+ℤ, *ℤ-negℤ, *ℤ-assoc, *ℤ-left-comm, scale-≤, cancel-≡}
-use Rattle.shapley.proofs.SubsetsToCounts.{lowered-raised, length-is-total, position-inside, subsets-by-counts, orders-add-up}
+use Rattle.rounding.proofs.Integers.{*ℤ-+ℤ, *ℤ-negℤ, *ℤ-assoc, *ℤ-left-comm, scale-≤, cancel-≡}
+use Rattle.shapley.proofs.SubsetsToCounts.{length-is-total, position-inside, subsets-by-counts, orders-add-up}
 use Rattle.shapley.proofs.Sums.{box-sum-cong, box-sum-scale, box-sum-adds, box-sum-mono, subset-sum-cong, subset-sum-scale}
 use Rattle.shapley.proofs.Weights.{weight-factorials}
 use Rattle.shapley.specs.Combinations.{factorial, ways}
@@ -25,43 +27,10 @@ use Rattle.shapley.specs.Shares.{box-sum, marginal, share}
 use Rattle.shapley.specs.Subsets.{subset-sum, shapley-sum, counts-of}
 use Rattle.shapley.specs.Weights.{weight}
 
--- ---- groups inside counts
-
-pub inside-total : (n counts : List ℕ) → Inside n counts → total n ≤ total counts
-inside-total [] [] h = omega arith
-inside-total [] (m ∷ ms) h = absurd h
-inside-total (n ∷ ns) [] h = absurd h
-inside-total (n ∷ ns) (m ∷ ms) h = omega (arith, h .0, inside-total ns ms (h .1))
-
--- a group of the others is a group of all
-pub inside-lowered : (i : ℕ) (n counts : List ℕ) → Inside n (lowered i counts) → Inside n counts
-inside-lowered i n [] h = h
-inside-lowered zero [] (m ∷ ms) h = absurd h
-inside-lowered zero (n ∷ ns) (m ∷ ms) h = (omega (arith, h .0), h .1)
-inside-lowered (suc i) [] (m ∷ ms) h = absurd h
-inside-lowered (suc i) (n ∷ ns) (m ∷ ms) h = (h .0, inside-lowered i ns ms (h .1))
-
--- and so it is with the home itself
-pub raised-inside : (i : ℕ) (n counts : List ℕ) → 0 < getD counts i 0 → Inside n (lowered i counts) → Inside (raised i n) counts
-raised-inside i n [] p h = absurd (omega arith)
-raised-inside zero [] (m ∷ ms) p h = absurd h
-raised-inside zero (n ∷ ns) (m ∷ ms) p h = (omega (arith, h .0), h .1)
-raised-inside (suc i) [] (m ∷ ms) p h = absurd h
-raised-inside (suc i) (n ∷ ns) (m ∷ ms) p h = (h .0, raised-inside i ns ms p (h .1))
-
-pub raised-lowered : (i : ℕ) (counts : List ℕ) → 0 < getD counts i 0 → raised i (lowered i counts) ≡ counts
-raised-lowered i [] p = refl
-raised-lowered zero (m ∷ ms) p = ap (λ (x : ℕ). x ∷ ms) (omega arith)
-raised-lowered (suc i) (m ∷ ms) p = ap (λ (x : List ℕ). m ∷ x) (raised-lowered i ms p)
-
--- the home itself is counted
-getD-raised : (i : ℕ) (n : List ℕ) → i < length n → 0 < getD (raised i n) i 0
-getD-raised i [] h = absurd (omega arith)
-getD-raised zero (n ∷ ns) h = omega arith
-getD-raised (suc i) (n ∷ ns) h = getD-raised i ns (omega arith)
+-- ---- the homes of a list
 
 pub home-counted : (home : DemandType) (others : List DemandType) → 0 < getD (counts-of (home ∷ others)) (position home) 0
-home-counted home others = getD-raised (position home) (counts-of others) (position-inside home others)
+home-counted home others = raised-counted (position home) (counts-of others) (position-inside home others)
 
 -- ---- the share of a sum, and of equal costs
 

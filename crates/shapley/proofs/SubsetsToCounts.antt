@@ -7,39 +7,18 @@ use native.Mathlib.Omega.{arith}
 use lib.IntN.{ℤ, pos, _+ℤ_, _*ℤ_, *ℤ-comm, zero-*ℤ, +ℤ-idr, +ℤ-assoc}
 use lib.ListN.{length}
 use Rattle.std.proofs.shelf.Signed.{ints}
-use Rattle.composition.specs.Counts.{total, raised, lowered}
+use Rattle.composition.proofs.Changes.{position-below, length-raised, total-raised}
+use Rattle.composition.specs.Counts.{total, raised}
 use Rattle.composition.specs.Types.{position}
 use Rattle.composition.specs.declared.demand_type.DemandType.{DemandType}
-use Rattle.composition.specs.declared.demand_type.DemandType.the-variants.{One, Two, Three, Four}
 use Rattle.shapley.proofs.Combinatorics.{choose-above, choose-factorials}
-use Rattle.shapley.proofs.Integers.{*ℤ-+ℤ, +ℤ-*ℤ, *ℤ-assoc, one-*ℤ}
+use Rattle.rounding.proofs.Integers.{*ℤ-+ℤ, +ℤ-*ℤ, *ℤ-assoc, one-*ℤ}
 use Rattle.shapley.proofs.Sums.{range-sum-cong, range-sum-scale, range-sum-adds, range-sum-same, box-sum-cong, box-sum-adds}
 use Rattle.shapley.specs.Combinations.{factorial, choose, ways}
 use Rattle.shapley.specs.Shares.{range-sum, box-sum}
 use Rattle.shapley.specs.Subsets.{subset-sum, counts-of}
 
 -- ---- counts of a list of homes
-
-pub length-raised : (i : ℕ) (n : List ℕ) → length (raised i n) ≡ length n
-length-raised i [] = refl
-length-raised zero (n ∷ ns) = refl
-length-raised (suc i) (n ∷ ns) = ap suc (length-raised i ns)
-
-pub total-raised : (i : ℕ) (n : List ℕ) → i < length n → total (raised i n) ≡ suc (total n)
-total-raised i [] h = absurd (omega arith)
-total-raised zero (n ∷ ns) h = omega arith
-total-raised (suc i) (n ∷ ns) h = omega (arith, total-raised i ns (omega arith))
-
-pub lowered-raised : (i : ℕ) (n : List ℕ) → lowered i (raised i n) ≡ n
-lowered-raised i [] = refl
-lowered-raised zero (n ∷ ns) = ap (λ (x : ℕ). x ∷ ns) (omega arith)
-lowered-raised (suc i) (n ∷ ns) = ap (λ (x : List ℕ). n ∷ x) (lowered-raised i ns)
-
-pub position-below : (k : DemandType) → position k < 4
-position-below One = omega arith
-position-below Two = omega arith
-position-below Three = omega arith
-position-below Four = omega arith
 
 pub length-counts : (hs : List DemandType) → length (counts-of hs) ≡ 4
 length-counts [] = refl
@@ -50,7 +29,7 @@ position-inside k hs = omega (arith, position-below k, length-counts hs)
 
 pub length-is-total : (hs : List DemandType) → total (counts-of hs) ≡ length hs
 length-is-total [] = refl
-length-is-total (k ∷ hs) = total-raised (position k) (counts-of hs) (position-inside k hs) ∙ ap suc (length-is-total hs)
+length-is-total (k ∷ hs) = omega (arith, total-raised (position k) (counts-of hs) (position-inside k hs), length-is-total hs)
 
 -- ---- picking among n equal things
 

@@ -10,7 +10,7 @@ use lib.IntN.{ℤ, pos, _+ℤ_, _*ℤ_}
 use lib.Signed.{_≤ℤ_}
 use Rattle.std.proofs.shelf.Signed.{ints}
 use Rattle.composition.specs.Counts.{Inside}
-use Rattle.shapley.proofs.Integers.{*ℤ-+ℤ, add-≤}
+use Rattle.rounding.proofs.Integers.{*ℤ-+ℤ, add-≤}
 use Rattle.shapley.specs.Shares.{range-sum, box-sum}
 use Rattle.shapley.specs.Subsets.{subset-sum}
 

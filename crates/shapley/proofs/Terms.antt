@@ -13,14 +13,14 @@ use mir.Val.{SFits, hbits}
 use Rattle.std.proofs.shelf.Signed.{ints}
 use Rattle.composition.proofs.Changes.{count-le-total, length-raised, total-lowered}
 use Rattle.composition.proofs.Four.{split4, total-four}
-use Rattle.composition.proofs.Places.{inside-length, at-place-inside, place-below, place-raised}
+use Rattle.composition.proofs.Places.{inside-length, inside-count, at-place-inside, place-below, place-raised}
 use Rattle.composition.specs.Counts.{total, count, size, Inside, place, at-place, step, raised, lowered}
 use Rattle.composition.specs.Types.{position}
 use Rattle.composition.specs.declared.demand_type.DemandType.{DemandType}
 use Rattle.cost_rules.specs.Limits.{limit, Within}
 use Rattle.shapley.proofs.Combinatorics.{ways-le-power}
 use Rattle.shapley.proofs.CommonMultiples.{lcm-to-small}
-use Rattle.shapley.proofs.Integers.{scale-≤, *ℤ-negℤ}
+use Rattle.rounding.proofs.Integers.{scale-≤, *ℤ-negℤ}
 use Rattle.shapley.proofs.Places.{place-sum, places-are-groups, size-le-power}
 use Rattle.shapley.proofs.Shapley.{share-bounded-by-counts}
 use Rattle.shapley.proofs.Weights.{weight-le-lcm}
@@ -32,20 +32,12 @@ use Rattle.shapley.specs.Weights.{weight}
 
 -- ---- picking a group
 
--- a group has no more of any type than the homes that it lies inside
-inside-entry : (i : ℕ) (ns ms : List ℕ) → Inside ns ms → getD ns i 0 ≤ getD ms i 0
-inside-entry i [] [] h = omega arith
-inside-entry i [] (m ∷ ms) h = absurd h
-inside-entry i (n ∷ ns) [] h = absurd h
-inside-entry zero (n ∷ ns) (m ∷ ms) h = h .0
-inside-entry (suc i) (n ∷ ns) (m ∷ ms) h = inside-entry i ns ms (h .1)
-
 -- so that each count of a group, as it is read, can be looked up
 pub entry-few : (i : ℕ) (a ms : List ℕ) → a ≡ ms → total ms ≤ 23 → getD a i 0 ≤ 23
 entry-few i a ms e h = omega (arith, count-le-total i a, ap total e)
 
 pub entry-within : (i : ℕ) (a b ms ns : List ℕ) → a ≡ ms → b ≡ ns → Inside ns ms → getD b i 0 ≤ getD a i 0
-entry-within i a b ms ns e f h = rw (e, f) (inside-entry i ns ms h)
+entry-within i a b ms ns e f h = rw (e, f) (inside-count i ns ms h)
 
 -- the ways for four counts, written out
 abbrev ways-at : List ℕ → List ℕ → ℕ

@@ -8,7 +8,7 @@ use Rattle.std.proofs.shelf.Signed.{ints}
 use Rattle.composition.specs.Counts.{Inside}
 use Rattle.composition.specs.Types.{position}
 use Rattle.shapley.specs.CostTables.{cost-in}
-use Rattle.shapley.proofs.Shapley.{raised-inside}
+use Rattle.composition.proofs.Places.{raised-inside}
 use Rattle.shapley.proofs.Terms.{others-fewer, group-inside, read-term}
 use Rattle.shapley.proofs.cost_table.CostTable.term.Needs as need
 
