@@ -13,10 +13,10 @@ impl Account {
         let Ok(of) = DemandType::numbered(number) else {
             return Err(JoinRefusal::NoSuchType);
         };
-        let Ok(homes) = self.homes.with_one(of) else {
+        let Ok(more) = self.homes.with_one(of) else {
             return Err(JoinRefusal::Full);
         };
-        self.homes = homes;
+        self.homes = more;
         Ok(())
     }
 
@@ -27,10 +27,10 @@ impl Account {
         let Ok(of) = DemandType::numbered(number) else {
             return Err(LeaveRefusal::NoSuchType);
         };
-        let Some(homes) = self.homes.without_one(of) else {
+        let Some(fewer) = self.homes.without_one(of) else {
             return Err(LeaveRefusal::NoneThere);
         };
-        self.homes = homes;
+        self.homes = fewer;
         Ok(())
     }
 }

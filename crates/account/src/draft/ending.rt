@@ -8,7 +8,8 @@ impl Draft {
     pub fn post(self) -> Account
         ensures { λ r. ⌜ Posted self r ⌝ }
     {
-        self.account.posted(self.purse)
+        let Draft { account, purse, .. } = self;
+        account.posted(purse)
     }
 
     // The draft is dropped: the account is as it was.
