@@ -15,13 +15,6 @@ use Rattle.cost_rules.specs.declared.listed.ListedRule.{ListedRule}
 use Rattle.cost_rules.specs.declared.listed.filling.ListedRefusal.{ListedRefusal}
 use Rattle.cost_rules.specs.declared.listed.filling.ListedRefusal.the-variants.{BoxTooLarge, WrongLength, FirstNotZero, OutsideLimits}
 
--- the numbers that the world outside knows
-abbrev pub number-of : ListedRefusal → ℕ
-number-of BoxTooLarge = 31
-number-of WrongLength = 32
-number-of FirstNotZero = 33
-number-of (OutsideLimits p) = 34
-
 -- every entry before a place lies within the limits
 abbrev pub WithinBefore : List ℤ → ℕ → Type 0
 WithinBefore table p = (q : ℕ) → q < p → Within (getD table q (pos 0))

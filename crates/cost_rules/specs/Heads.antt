@@ -24,10 +24,6 @@ use Rattle.cost_rules.specs.declared.head.FeeOutside.{FeeOutside}
 abbrev pub headed : List ℤ → Meaning
 headed fees n = Ok (weighted n fees)
 
--- the number of the refusal of a fee outside its limits, as the world outside knows it
-abbrev pub fee-outside : ℕ
-fee-outside = 41
-
 -- the fee of a type
 abbrev pub fee-of : List ℤ → DemandType → ℤ
 fee-of fees k = getD fees (position k) (pos 0)

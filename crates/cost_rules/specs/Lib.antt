@@ -5,4 +5,5 @@ pub mod Heads
 pub mod Limits
 pub mod Listed
 pub mod Meanings
+pub mod Refusals
 pub mod Sums

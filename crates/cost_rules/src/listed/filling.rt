@@ -1,6 +1,7 @@
 // Filling a listed rule.
 ghost use mathlib.Core.Path.{_≡_};
-ghost use Rattle.cost_rules.specs.Filled.{Filled, BuiltIn, FirstOutside, number-of};
+ghost use Rattle.cost_rules.specs.Filled.{Filled, BuiltIn, FirstOutside};
+ghost use Rattle.cost_rules.specs.Refusals.{listed-number};
 use super::ListedRule;
 use composition::Composition;
 
@@ -21,7 +22,7 @@ pub enum ListedRefusal {
 
 impl ListedRefusal {
     pub fn number(self) -> u8
-        ensures { λ r. ⌜ r ≡ number-of self ⌝ }
+        ensures { λ r. ⌜ r ≡ listed-number self ⌝ }
     {
         match self {
             ListedRefusal::BoxTooLarge => 31,

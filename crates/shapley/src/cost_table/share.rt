@@ -9,7 +9,7 @@ ghost use Rattle.composition.specs.Types.{position};
 ghost use Rattle.cost_rules.specs.Limits.{Within};
 ghost use Rattle.shapley.specs.Combinations.{ways};
 ghost use Rattle.shapley.specs.CostTables.{SharedBy, cost-in, term};
-ghost use Rattle.shapley.specs.Shares.{marginal};
+ghost use Rattle.shapley.specs.Shares.{marginal, share};
 ghost use Rattle.shapley.specs.Weights.{weight};
 use super::CostTable;
 use crate::ways::ways;
@@ -23,12 +23,20 @@ impl CostTable<'_> {
         ensures { λ r. ⌜ SharedBy (now (self .entry)) of r ⌝ }
     {
         let others = self.homes.without_one(of)?;
+        Some(self.sum(of, &others))
+    }
+
+    // What the home adds to every group of the others, weighted, added up.
+    fn sum(&self, of: DemandType, others: &Composition) -> i64
+        requires some { ⌜ 0 < count (position of) (now self .homes .counts) ⌝ }
+        requires fewer { ⌜ now others .counts ≡ lowered (position of) (now self .homes .counts) ⌝ }
+        ensures { λ r. ⌜ r ≡ share (now (self .entry) .homes .counts) (position of) (cost-in (now (self .entry))) ⌝ }
+    {
         let mut sum: i128 = 0;
         for place in 0..others.size() {
-            sum += self.term(of, &others, place);
+            sum += self.term(of, others, place);
         }
-        let share = sum as i64;
-        Some(share)
+        sum as i64
     }
 
     // What one home more adds to the group of others at a place, weighted.

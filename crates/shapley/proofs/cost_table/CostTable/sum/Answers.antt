@@ -11,12 +11,12 @@ use Rattle.shapley.specs.CostTables.{cost-in, term as term-of}
 use Rattle.shapley.specs.Shares.{share}
 use Rattle.shapley.proofs.Places.{place-sum-step}
 use Rattle.shapley.proofs.Terms.{all-summed, share-fits, size-small, between-fits}
-use Rattle.shapley.proofs.cost_table.CostTable.share.Needs as need
+use Rattle.shapley.proofs.cost_table.CostTable.sum.Needs as need
 
 -- there are at most 2 ^ 24 places, and there too the invariant's bound fits
 pub add-sum : need.add-sum
 add-sum c =
-    let others = c .in-Continue-others .others in
+    let others = c .args .others .now in
     let size = size-small (others .counts) (others .few) in
     let sum = c .loop-place .inv in
     let term = c .term-sum .ensures in
@@ -26,7 +26,7 @@ add-sum c =
 
 pub loop-place-again : need.loop-place-again
 loop-place-again c =
-    let others = c .in-Continue-others .others in
+    let others = c .args .others .now in
     let size = size-small (others .counts) (others .few) in
     let sum = c .loop-place .inv in
     let term = c .term-sum .ensures in
@@ -40,24 +40,22 @@ loop-place-again c =
 -- at the end of the loop all groups were taken
 summed : (c : need.After-loop-place) → c .loop-place .sum ≡ share (c .args .self .now .homes .counts) (position (c .args .of)) (cost-in (c .args .self .now))
 summed c =
-    let others = c .in-Continue-others .others in
-    let without = c .in-Continue-others .ensures tt in
+    let others = c .args .others .now in
+    let without = c .pre in
     let self = c .args .self .now in
-    all-summed (position (c .args .of)) (c .loop-place .place) (self .homes .counts) (others .counts) (cost-in self) (c .loop-place .sum) (without .1)
+    all-summed (position (c .args .of)) (c .loop-place .place) (self .homes .counts) (others .counts) (cost-in self) (c .loop-place .sum) (without .fewer)
     (omega arith) (sym (c .loop-place .sum-is) ∙ c .loop-place .inv .0)
 
 -- so the sum is a share, which fits
 fits : (c : need.After-loop-place) → SFits w64 (c .loop-place .sum)
 fits c =
     let self = c .args .self .now in
-    let without = c .in-Continue-others .ensures tt in
+    let without = c .pre in
     subst (SFits w64) (sym (summed c))
-    (share-fits (self .homes .counts) (c .args .of) (self .costs .now) (self .homes .four) (self .homes .few) (without .0) (self .limits))
+    (share-fits (self .homes .counts) (c .args .of) (self .costs .now) (self .homes .four) (self .homes .few) (without .some) (self .limits))
 
-pub cast-share : need.cast-share
-cast-share c = subst (SFits w64) (sym (c .loop-place .sum-is)) (fits c)
+pub cast-result : need.cast-result
+cast-result c = subst (SFits w64) (sym (c .loop-place .sum-is)) (fits c)
 
 pub returns : need.returns
-returns c =
-    let without = c .in-Continue-others .ensures tt in
-    (without .0, toZ-ofZ w64 _ (cast-share c) ∙ c .loop-place .sum-is ∙ summed c)
+returns c = toZ-ofZ w64 _ (cast-result c) ∙ c .loop-place .sum-is ∙ summed c

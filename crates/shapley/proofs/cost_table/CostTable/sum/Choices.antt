@@ -6,7 +6,7 @@ use Rattle.composition.specs.Counts.{at-place}
 use Rattle.composition.specs.Types.{position}
 use Rattle.shapley.specs.CostTables.{term, cost-in}
 use Rattle.shapley.proofs.Places.{place-sum}
-use Rattle.shapley.proofs.cost_table.CostTable.share.Given as given
+use Rattle.shapley.proofs.cost_table.CostTable.sum.Given as given
 
 abbrev pub Inv-loop-place : given.InvT-loop-place
 Inv-loop-place l =
