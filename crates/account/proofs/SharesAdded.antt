@@ -16,7 +16,8 @@ use Rattle.composition.proofs.Places.{inside-length, inside-total}
 use Rattle.cost_rules.specs.Faults.{outside-limits}
 use Rattle.cost_rules.specs.Limits.{limit}
 use Rattle.cost_rules.specs.Meanings.{Meaning}
-use Rattle.cost_rules.specs.Sums.{priced, both, sum-of}
+use Rattle.cost_rules.specs.Prices.{priced}
+use Rattle.cost_rules.specs.Sums.{both, sum-of}
 use Rattle.cost_rules.specs.declared.fault.Fault.{Fault}
 use Rattle.shapley.specs.Shares.{share}
 use Rattle.shapley.specs.Subsets.{counts-of}

@@ -1,5 +1,4 @@
 -- Groups of homes as lists of counts, one count a type, and the places that they have in a table.
-use mathlib.Core.Path.{_≡_}
 use mathlib.Core.Bool.{Bool, true, false, _&&_}
 use mathlib.Core.List.{List, [], _∷_}
 use lib.Dec.{leb}

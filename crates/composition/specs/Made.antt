@@ -1,7 +1,7 @@
 -- Making a composition.
 use mathlib.Core.Path.{_≡_}
 use mathlib.Core.List.{List}
-use Prim.Native.Nat.{ℕ, _≤_, _<_}
+use Prim.Native.Nat.{ℕ, _<_}
 use Rattle.composition.specs.Counts.{total, count, lowered}
 use Rattle.composition.specs.declared.composition.Composition.{Composition}
 use Rattle.composition.specs.declared.composition.TooManyHomes.{TooManyHomes}

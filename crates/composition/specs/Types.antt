@@ -1,6 +1,6 @@
 -- The four demand types: their numbers, and where their counts stand.
 use mathlib.Core.Path.{_≡_}
-use Prim.Native.Nat.{ℕ, _+_, _<_}
+use Prim.Native.Nat.{ℕ, _+_}
 use Rattle.composition.specs.declared.demand_type.DemandType.{DemandType}
 use Rattle.composition.specs.declared.demand_type.DemandType.the-variants.{One, Two, Three, Four}
 use Rattle.composition.specs.declared.demand_type.NoSuchType.{NoSuchType}

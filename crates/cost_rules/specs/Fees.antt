@@ -1,5 +1,4 @@
 -- What a fee may be, in hundredths of a penny.
-use Prim.Native.Nat.{ℕ}
 use lib.IntN.{ℤ}
 use Rattle.composition.specs.Amounts.{Between}
 

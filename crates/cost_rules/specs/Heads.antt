@@ -10,7 +10,7 @@ use Rattle.std.proofs.shelf.Signed.{ints}
 use Rattle.std.specs.declared.result.Result.{Result}
 use Rattle.std.specs.declared.result.Result.the-variants.{Ok, Err}
 use Rattle.composition.proofs.Amounts.{weighted-between, weighted-nobody}
-use Rattle.composition.specs.Amounts.{weighted, Between}
+use Rattle.composition.specs.Amounts.{weighted}
 use Rattle.composition.specs.Counts.{total}
 use Rattle.composition.specs.Types.{position}
 use Rattle.composition.specs.declared.demand_type.DemandType.{DemandType}

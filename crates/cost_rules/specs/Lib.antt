@@ -5,5 +5,6 @@ pub mod Heads
 pub mod Limits
 pub mod Listed
 pub mod Meanings
+pub mod Prices
 pub mod Refusals
 pub mod Sums

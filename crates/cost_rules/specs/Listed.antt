@@ -6,7 +6,6 @@ use Prim.Native.Nat.{ℕ, _<_}
 use native.Mathlib.Omega.{arith}
 use lib.IntN.{ℤ, pos}
 use lib.ListN.{length, getD}
-use Rattle.std.specs.declared.result.Result.{Result}
 use Rattle.std.specs.declared.result.Result.the-variants.{Ok, Err}
 use Rattle.composition.proofs.Four.{nobody-inside, nobody-place}
 use Rattle.composition.proofs.Places.{fits-inside, inside-fits, place-below}
@@ -14,7 +13,6 @@ use Rattle.composition.specs.Counts.{fits, place, size, nobody}
 use Rattle.cost_rules.specs.Faults.{above-box}
 use Rattle.cost_rules.specs.Limits.{Within}
 use Rattle.cost_rules.specs.Meanings.{Meaning, Free, Limited}
-use Rattle.cost_rules.specs.declared.fault.Fault.{Fault}
 
 -- what a box and its table of costs mean
 abbrev pub listed : List ℕ → List ℤ → Meaning

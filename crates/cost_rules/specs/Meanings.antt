@@ -6,7 +6,7 @@ use lib.IntN.{ℤ, pos}
 use lib.ListN.{length}
 use Rattle.composition.specs.Counts.{total, nobody}
 use Rattle.std.specs.declared.result.Result.{Result}
-use Rattle.std.specs.declared.result.Result.the-variants.{Ok, Err}
+use Rattle.std.specs.declared.result.Result.the-variants.{Ok}
 use Rattle.cost_rules.specs.Limits.{Within}
 use Rattle.cost_rules.specs.declared.fault.Fault.{Fault}
 

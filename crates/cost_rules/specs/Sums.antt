@@ -1,21 +1,15 @@
 -- The sum of two rules, and that it owes what every rule owes.
-use mathlib.Core.Path.{_≡_, refl, _∙_, ap}
-use mathlib.Core.Bool.{Bool, true, false, cond, _&&_}
+use mathlib.Core.Path.{_≡_}
 use Prim.Native.Nat.{ℕ}
-use lib.IntN.{ℤ, pos, negℤ, _+ℤ_}
-use lib.Signed.{leZ}
+use lib.IntN.{ℤ, _+ℤ_}
 use native.Mathlib.Omega.{arith}
-use Rattle.std.proofs.shelf.Signed.{ints}
 use Rattle.std.specs.declared.result.Result.{Result}
 use Rattle.std.specs.declared.result.Result.the-variants.{Ok, Err}
-use Rattle.cost_rules.specs.Faults.{outside-limits, lifted}
-use Rattle.cost_rules.specs.Limits.{limit, Within}
+use Rattle.cost_rules.specs.Faults.{lifted}
+use Rattle.cost_rules.specs.Limits.{Within}
+use Rattle.cost_rules.specs.Prices.{priced, priced-within}
 use Rattle.cost_rules.specs.Meanings.{Meaning, Free, Limited, Lawful}
 use Rattle.cost_rules.specs.declared.fault.Fault.{Fault}
-
--- an amount as a rule's cost: a fault where it lies outside the limits
-abbrev pub priced : ℤ → Result ℤ Fault
-priced c = cond (leZ (negℤ (pos limit)) c && leZ c (pos limit)) (Ok c) (Err outside-limits)
 
 -- the costs added; the left fault, else the right one, a rung higher
 abbrev pub both : Result ℤ Fault → Result ℤ Fault → Result ℤ Fault
@@ -34,20 +28,6 @@ lifts (Err f) = Err (lifted f)
 
 pub sum-free : (f g : Meaning) → Free f → Free g → Free (sum-of f g)
 sum-free f g p q = rw (p, q)
-
--- what has a price has it within the limits
-priced-within : (a c : ℤ) → priced a ≡ Ok c → Within c
-priced-within a c = go (leZ (negℤ (pos limit)) a) (leZ a (pos limit)) refl refl
-  where
-    go :
-        (low high : Bool)
-        → leZ (negℤ (pos limit)) a ≡ low
-        → leZ a (pos limit) ≡ high
-        → cond (low && high) (Ok a) (Err outside-limits) ≡ Ok c
-        → Within c
-    go true true l h e = let same : a ≡ c = cc in (omega (arith, ints), omega (arith, ints))
-    go true false l h e = let z : _≡_ {A = ℕ} 0 1 = cc in absurd (omega arith)
-    go false high l h e = let z : _≡_ {A = ℕ} 0 1 = cc in absurd (omega arith)
 
 both-within : (x y : Result ℤ Fault) (c : ℤ) → both x y ≡ Ok c → Within c
 both-within (Ok a) (Ok b) c e = priced-within (a +ℤ b) c e

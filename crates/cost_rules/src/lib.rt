@@ -3,6 +3,7 @@ mod cost_rule;
 mod fault;
 mod head;
 mod listed;
+mod pricing;
 mod sum;
 
 pub use cost_rule::CostRule;
@@ -13,5 +14,6 @@ pub use head::HeadRuleCost;
 pub use listed::ListedRefusal;
 pub use listed::ListedRule;
 pub use listed::ListedRuleCost;
+pub use pricing::price;
 pub use sum::SumRule;
 pub use sum::SumRuleCost;

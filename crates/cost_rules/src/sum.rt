@@ -2,9 +2,11 @@
 ghost use mathlib.Core.Path.{_≡_};
 ghost use lib.IntN.{_+ℤ_};
 ghost use Rattle.cost_rules.specs.Limits.{Within};
-ghost use Rattle.cost_rules.specs.Sums.{both, sum-of, lifts, priced, sum-free, sum-limited};
+ghost use Rattle.cost_rules.specs.Prices.{priced};
+ghost use Rattle.cost_rules.specs.Sums.{sum-of, lifts, sum-free, sum-limited};
 use crate::cost_rule::CostRule;
 use crate::fault::Fault;
+use crate::pricing::price;
 use composition::Composition;
 
 #[derive(Clone, Copy, Drop)]
@@ -47,17 +49,4 @@ fn add(left: i64, right: i64) -> Result<i64, Fault>
     ensures { λ r. ⌜ r ≡ priced (left +ℤ right) ⌝ }
 {
     price(left + right)
-}
-
-// An amount as a cost, or the fault of one outside the limits.
-pub fn price(amount: i64) -> Result<i64, Fault>
-    ensures { λ r. ⌜ r ≡ priced amount ⌝ }
-{
-    if amount < -500_000_000 || amount > 500_000_000 {
-        return Err(Fault {
-            number: 10,
-            rung: 0,
-        });
-    }
-    Ok(amount)
 }

@@ -1,5 +1,4 @@
 // Filling a caller's table with the cost of every composition inside an account.
-ghost use mathlib.Core.Path.{_≡_};
 ghost use Prim.Native.Nat.{_≤_};
 ghost use lib.ListN.{length};
 ghost use Rattle.composition.specs.Counts.{size, at-place};

@@ -1,5 +1,4 @@
 // Making a composition, and what it tells of itself.
-ghost use Prim.Native.Nat.{_≤_, _<_};
 ghost use mathlib.Core.Path.{_≡_};
 ghost use Rattle.composition.specs.Counts.{total, nobody};
 ghost use Rattle.composition.specs.Made.{Made};

@@ -1,6 +1,5 @@
 // Making a head rule.
 ghost use mathlib.Core.Path.{_≡_};
-ghost use Rattle.cost_rules.specs.Fees.{IsFee};
 ghost use Rattle.cost_rules.specs.Heads.{HeadMade, Accepts};
 ghost use Rattle.cost_rules.specs.Refusals.{fee-outside};
 use super::FeeOutside;

@@ -1,6 +1,4 @@
-use mathlib.Core.Path.{_∙_}
 use native.Mathlib.Omega.{arith}
-use Rattle.shapley.specs.CostTables.{costs-by}
 use Rattle.account.specs.Bills.{cost-by}
 use Rattle.account.proofs.FilledTables.{filled-within, filled-costs, billed-alike}
 use Rattle.account.proofs.account.Account.draft.Needs as need

@@ -1,15 +1,13 @@
 use mathlib.Core.Path.{_≡_, refl, sym, ap, _∙_, subst}
-use mathlib.Core.List.{List}
-use Prim.Native.Nat.{ℕ, _*_}
+use Prim.Native.Nat.{ℕ}
 use native.Mathlib.Omega.{arith}
 use borrow.Author.Needs.{needs}
-use lib.IntN.{ℤ, pos}
+use lib.IntN.{ℤ}
 use mir.Facts.{toZ-ofZ}
 use mir.Syntax.{w32, w64}
-use mir.Val.{SFits, toZ, ofZ}
+use mir.Val.{SFits}
 use Rattle.std.proofs.shelf.Signed.{ints}
 use Rattle.std.specs.declared.option.Option.{Option}
-use Rattle.billing.specs.Billing.{Settled}
 use Rattle.composition.specs.Counts.{total, count}
 use Rattle.composition.specs.Types.{position}
 use Rattle.composition.specs.declared.composition.Composition.{Composition}
@@ -19,7 +17,7 @@ use Rattle.shapley.proofs.CommonMultiples.{lcm-to-pos, lcm-to-small}
 use Rattle.shapley.specs.CostTables.{costs-by}
 use Rattle.shapley.specs.Shares.{share}
 use Rattle.account.specs.Charges.{ChargedAs}
-use Rattle.account.proofs.ChargesMade.{billed-at, four-of, four-same, settled-read}
+use Rattle.account.proofs.ChargesMade.{billed-at, four-same, settled-read}
 use Rattle.account.proofs.draft.Draft.bill.Needs as need
 
 pub penny-over-penny-requires : need.penny-over-penny-requires

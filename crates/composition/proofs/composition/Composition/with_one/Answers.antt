@@ -1,9 +1,8 @@
-use borrow.Author.Needs.{needs}
-use mathlib.Core.Path.{_≡_, sym, _∙_, ap}
+use mathlib.Core.Path.{_≡_, _∙_, ap}
 use Prim.Native.Nat.{_<_, _+_}
 use native.Mathlib.Omega.{arith}
 use lib.ListN.{length}
-use Rattle.composition.specs.Counts.{count, raised, total}
+use Rattle.composition.specs.Counts.{raised, total}
 use Rattle.composition.specs.Types.{position}
 use Rattle.composition.proofs.Changes.{position-below, set-raised, length-raised, total-raised, count-le-total}
 use Rattle.composition.proofs.composition.Composition.with_one.Needs as need
