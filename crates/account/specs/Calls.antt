@@ -10,7 +10,7 @@ use Rattle.std.specs.declared.result.Result.the-variants.{Ok, Err}
 use Rattle.composition.specs.Counts.{nobody, total, size, count, raised, lowered}
 use Rattle.composition.specs.Types.{position, number-of}
 use Rattle.composition.specs.declared.demand_type.DemandType.{DemandType}
-use Rattle.composition.specs.declared.demand_type.NoSuchType.{NoSuchType}
+use Rattle.composition.specs.declared.refusals.NoSuchType.{NoSuchType}
 use Rattle.cost_rules.specs.Meanings.{Meaning}
 use Rattle.account.specs.Bills.{cost-by, line-of, Billed}
 use Rattle.account.specs.Filling.{FilledTo, FaultAt}

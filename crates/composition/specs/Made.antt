@@ -4,7 +4,7 @@ use mathlib.Core.List.{List}
 use Prim.Native.Nat.{ℕ, _<_}
 use Rattle.composition.specs.Counts.{total, count, lowered}
 use Rattle.composition.specs.declared.composition.Composition.{Composition}
-use Rattle.composition.specs.declared.composition.TooManyHomes.{TooManyHomes}
+use Rattle.composition.specs.declared.refusals.TooManyHomes.{TooManyHomes}
 use Rattle.std.specs.declared.option.Option.{Option}
 use Rattle.std.specs.declared.option.Option.the-variants.{Some, None}
 use Rattle.std.specs.declared.result.Result.{Result}

@@ -3,7 +3,7 @@ use mathlib.Core.Path.{_≡_}
 use Prim.Native.Nat.{ℕ, _+_}
 use Rattle.composition.specs.declared.demand_type.DemandType.{DemandType}
 use Rattle.composition.specs.declared.demand_type.DemandType.the-variants.{One, Two, Three, Four}
-use Rattle.composition.specs.declared.demand_type.NoSuchType.{NoSuchType}
+use Rattle.composition.specs.declared.refusals.NoSuchType.{NoSuchType}
 use Rattle.std.specs.declared.result.Result.{Result}
 use Rattle.std.specs.declared.result.Result.the-variants.{Ok, Err}
 

@@ -15,7 +15,3 @@ pub struct Composition {
     ghost four: { length counts ≡ 4 },
     ghost few: { total counts ≤ 24 },
 }
-
-// More than 24 homes in all.
-#[derive(Clone, Copy)]
-pub struct TooManyHomes;

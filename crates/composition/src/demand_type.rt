@@ -1,7 +1,7 @@
 // One of the four demand types that a supply contract gives a home.
 ghost use mathlib.Core.Path.{_≡_};
 ghost use Rattle.composition.specs.Types.{Numbered, position};
-ghost use Rattle.composition.specs.Refusals.{no-such-type};
+use crate::refusals::NoSuchType;
 
 #[derive(Clone, Copy)]
 pub enum DemandType {
@@ -10,10 +10,6 @@ pub enum DemandType {
     Three,
     Four,
 }
-
-// A number that names no demand type.
-#[derive(Clone, Copy)]
-pub struct NoSuchType;
 
 impl DemandType {
     // The type with a number from 1 to 4.
@@ -39,13 +35,5 @@ impl DemandType {
             DemandType::Three => 2,
             DemandType::Four => 3,
         }
-    }
-}
-
-impl NoSuchType {
-    pub fn number(self) -> u8
-        ensures { λ r. ⌜ r ≡ no-such-type ⌝ }
-    {
-        1
     }
 }

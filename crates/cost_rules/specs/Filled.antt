@@ -12,8 +12,8 @@ use Rattle.std.specs.declared.result.Result.the-variants.{Ok, Err}
 use Rattle.composition.specs.Counts.{total, size, nobody}
 use Rattle.cost_rules.specs.Limits.{Within}
 use Rattle.cost_rules.specs.declared.listed.ListedRule.{ListedRule}
-use Rattle.cost_rules.specs.declared.listed.filling.ListedRefusal.{ListedRefusal}
-use Rattle.cost_rules.specs.declared.listed.filling.ListedRefusal.the-variants.{BoxTooLarge, WrongLength, FirstNotZero, OutsideLimits}
+use Rattle.cost_rules.specs.declared.refusals.ListedRefusal.{ListedRefusal}
+use Rattle.cost_rules.specs.declared.refusals.ListedRefusal.the-variants.{BoxTooLarge, WrongLength, FirstNotZero, OutsideLimits}
 
 -- every entry before a place lies within the limits
 abbrev pub WithinBefore : List ℤ → ℕ → Type 0

@@ -18,7 +18,7 @@ use Rattle.cost_rules.specs.Fees.{IsFee}
 use Rattle.cost_rules.specs.Limits.{Within}
 use Rattle.cost_rules.specs.Meanings.{Meaning, Free, Limited}
 use Rattle.cost_rules.specs.declared.head.HeadRule.{HeadRule}
-use Rattle.cost_rules.specs.declared.head.FeeOutside.{FeeOutside}
+use Rattle.cost_rules.specs.declared.refusals.FeeOutside.{FeeOutside}
 
 -- what a list of fees means: every composition has a cost
 abbrev pub headed : List ℤ → Meaning

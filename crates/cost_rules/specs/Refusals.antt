@@ -1,7 +1,7 @@
 -- The numbers of this crate's refusals, as the world outside knows them. Those of faults stand in Faults.
 use Prim.Native.Nat.{ℕ}
-use Rattle.cost_rules.specs.declared.listed.filling.ListedRefusal.{ListedRefusal}
-use Rattle.cost_rules.specs.declared.listed.filling.ListedRefusal.the-variants.{BoxTooLarge, WrongLength, FirstNotZero, OutsideLimits}
+use Rattle.cost_rules.specs.declared.refusals.ListedRefusal.{ListedRefusal}
+use Rattle.cost_rules.specs.declared.refusals.ListedRefusal.the-variants.{BoxTooLarge, WrongLength, FirstNotZero, OutsideLimits}
 
 -- a box and a table that make no listed rule
 abbrev pub listed-number : ListedRefusal → ℕ

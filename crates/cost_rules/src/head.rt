@@ -4,7 +4,6 @@ ghost use Prim.Native.Nat.{ℕ, _<_};
 ghost use lib.IntN.{pos};
 ghost use lib.ListN.{length, getD};
 ghost use Rattle.cost_rules.specs.Fees.{IsFee};
-use composition::DemandType;
 
 mod charging;
 mod making;
@@ -16,10 +15,4 @@ pub struct HeadRule {
     fees: [i32; 4],
     ghost four: { length fees ≡ 4 },
     ghost small: { (i : ℕ) → i < 4 → IsFee (getD fees i (pos 0)) },
-}
-
-// The first type whose fee lies outside the limits.
-#[derive(Clone, Copy)]
-pub struct FeeOutside {
-    pub of: DemandType,
 }

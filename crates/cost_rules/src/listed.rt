@@ -12,7 +12,6 @@ mod asking;
 mod filling;
 
 pub use asking::ListedRuleCost;
-pub use filling::ListedRefusal;
 
 #[derive(Clone, Copy)]
 pub struct ListedRule<'a> {

@@ -4,8 +4,8 @@ ghost use Rattle.composition.specs.Counts.{count, raised};
 ghost use Rattle.composition.specs.Made.{Made, Without};
 ghost use Rattle.composition.specs.Types.{position};
 use super::Composition;
-use super::TooManyHomes;
 use crate::demand_type::DemandType;
+use crate::refusals::TooManyHomes;
 
 impl Composition {
     // How many homes of a type.

@@ -2,9 +2,8 @@
 ghost use mathlib.Core.Path.{_≡_};
 ghost use Rattle.composition.specs.Counts.{total, nobody};
 ghost use Rattle.composition.specs.Made.{Made};
-ghost use Rattle.composition.specs.Refusals.{too-many-homes};
 use super::Composition;
-use super::TooManyHomes;
+use crate::refusals::TooManyHomes;
 
 impl Composition {
     // A group with these counts, or a refusal if there are more than 24 homes in all.
@@ -44,12 +43,4 @@ fn homes_in(counts: &[u8; 4]) -> u16
 {
     let [a, b, c, d] = *counts;
     u16::from(a) + u16::from(b) + u16::from(c) + u16::from(d)
-}
-
-impl TooManyHomes {
-    pub fn number(self) -> u8
-        ensures { λ r. ⌜ r ≡ too-many-homes ⌝ }
-    {
-        8
-    }
 }

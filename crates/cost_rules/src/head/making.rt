@@ -1,9 +1,7 @@
 // Making a head rule.
-ghost use mathlib.Core.Path.{_≡_};
 ghost use Rattle.cost_rules.specs.Heads.{HeadMade, Accepts};
-ghost use Rattle.cost_rules.specs.Refusals.{fee-outside};
-use super::FeeOutside;
 use super::HeadRule;
+use crate::refusals::FeeOutside;
 use composition::DemandType;
 
 impl HeadRule {
@@ -28,12 +26,4 @@ fn accept(fee: i32, of: DemandType) -> Result<(), FeeOutside>
         return Err(FeeOutside { of });
     }
     Ok(())
-}
-
-impl FeeOutside {
-    pub fn number(self) -> u8
-        ensures { λ r. ⌜ r ≡ fee-outside ⌝ }
-    {
-        41
-    }
 }

@@ -1,37 +1,10 @@
 // Filling a listed rule.
-ghost use mathlib.Core.Path.{_≡_};
 ghost use Rattle.cost_rules.specs.Filled.{Filled, BuiltIn, FirstOutside};
-ghost use Rattle.cost_rules.specs.Refusals.{listed-number};
 use super::ListedRule;
+use crate::refusals::ListedRefusal;
 use composition::Composition;
 
 static FREE: [i32; 1] = [0];
-
-// Why a box and a table make no rule.
-#[derive(Clone, Copy)]
-pub enum ListedRefusal {
-    // the box holds more than 24 homes
-    BoxTooLarge,
-    // the table has not one entry for each composition inside the box
-    WrongLength,
-    // nobody would not cost nothing
-    FirstNotZero,
-    // the first entry outside the limits stands at this place
-    OutsideLimits(usize),
-}
-
-impl ListedRefusal {
-    pub fn number(self) -> u8
-        ensures { λ r. ⌜ r ≡ listed-number self ⌝ }
-    {
-        match self {
-            ListedRefusal::BoxTooLarge => 31,
-            ListedRefusal::WrongLength => 32,
-            ListedRefusal::FirstNotZero => 33,
-            ListedRefusal::OutsideLimits(_) => 34,
-        }
-    }
-}
 
 impl<'a> ListedRule<'a> {
     // The rule to begin with: nobody costs nothing, and nobody else has a cost.
