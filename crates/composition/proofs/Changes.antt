@@ -51,6 +51,21 @@ set-lowered i [] = refl
 set-lowered zero (n ∷ ns) = refl
 set-lowered (suc i) (n ∷ ns) = ap (λ ms. n ∷ ms) (set-lowered i ns)
 
+-- the same, where a number is only known to be one more, or one fewer
+pub set-one-more : (i n : ℕ) (ns : List ℕ) → n ≡ count i ns + 1 → set ns i n ≡ raised i ns
+set-one-more i n ns e = rw e (set-raised i ns)
+
+pub set-one-fewer : (i n : ℕ) (ns : List ℕ) → n ≡ count i ns - 1 → set ns i n ≡ lowered i ns
+set-one-fewer i n ns e = rw e (set-lowered i ns)
+
+-- a group of fewer than 24 stays a group with one home more
+pub one-more-fits : (i n : ℕ) (ns : List ℕ) → n ≡ count i ns + 1 → i < length ns → length ns ≡ 4 → total ns < 24 → (length (set ns i n) ≡ 4) × ((total (set ns i n) ≤ 24) × Unit {0})
+one-more-fits i n ns e within four few = rw (set-one-more i n ns e) (rw (length-raised i ns) four, (omega (arith, total-raised i ns within, few), tt))
+
+-- and any group that has one stays a group with one home fewer
+pub one-fewer-fits : (i n : ℕ) (ns : List ℕ) → n ≡ count i ns - 1 → 0 < count i ns → length ns ≡ 4 → total ns ≤ 24 → (length (set ns i n) ≡ 4) × ((total (set ns i n) ≤ 24) × Unit {0})
+one-fewer-fits i n ns e some four few = rw (set-one-fewer i n ns e) (rw (length-lowered i ns) four, (omega (arith, total-lowered i ns some, few), tt))
+
 -- a home that joins and leaves again leaves the counts as they were, and so does one that leaves and comes back
 pub lowered-raised : (i : ℕ) (ns : List ℕ) → lowered i (raised i ns) ≡ ns
 lowered-raised i [] = refl

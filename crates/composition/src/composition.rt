@@ -9,6 +9,9 @@ mod changing;
 mod making;
 mod placing;
 
+// The most homes that a group can have.
+const MOST: u8 = 24;
+
 #[derive(Clone, Copy)]
 pub struct Composition {
     counts: [u8; 4],

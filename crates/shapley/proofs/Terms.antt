@@ -1,5 +1,5 @@
 -- What one group of the others brings to a share: that it can be read off the tables, and that it is small.
-use mathlib.Core.Path.{_≡_, refl, sym, ap, ap₂, _∙_, subst}
+use mathlib.Core.Path.{_≡_, refl, sym, ap, ap₂, _∙_}
 use mathlib.Core.List.{List, [], _∷_}
 use Prim.Native.Nat.{ℕ, _+_, _*_, _^_, _≤_, _<_}
 use native.Mathlib.Nat.{mul-one, le-trans, mul-le-mul}
@@ -13,7 +13,7 @@ use mir.Val.{SFits, hbits}
 use Rattle.std.proofs.shelf.Signed.{ints}
 use Rattle.composition.proofs.Changes.{count-le-total, length-raised, total-lowered}
 use Rattle.composition.proofs.Four.{split4, total-four}
-use Rattle.composition.proofs.Places.{inside-length, inside-count, at-place-inside, place-below, place-raised}
+use Rattle.composition.proofs.Places.{inside-length, inside-count, place-below, place-raised}
 use Rattle.composition.specs.Counts.{total, count, size, Inside, place, at-place, step, raised, lowered}
 use Rattle.composition.specs.Types.{position}
 use Rattle.composition.specs.declared.demand_type.DemandType.{DemandType}
@@ -148,10 +148,6 @@ read-marginal i p s ms ns costs x y e f h k g j =
 -- the others are one home fewer, so their weights stand in the row
 pub others-fewer : (i : ℕ) (ms os : List ℕ) → os ≡ lowered i ms → 0 < count i ms → total os < total ms
 others-fewer i ms os e h = omega (arith, total-lowered i ms h, ap total e)
-
--- whatever the place, the group there is one of the others
-pub group-inside : (p : ℕ) (os g : List ℕ) → g ≡ at-place os p → Inside g os
-group-inside p os g e = subst (λ (n : List ℕ). Inside n os) (sym e) (at-place-inside os p)
 
 -- a product of what was looked up and read is the term of the group at the place
 pub read-term :

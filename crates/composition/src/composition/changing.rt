@@ -4,6 +4,7 @@ ghost use Rattle.composition.specs.Counts.{count, raised};
 ghost use Rattle.composition.specs.Made.{Made, Without};
 ghost use Rattle.composition.specs.Types.{position};
 use super::Composition;
+use super::MOST;
 use crate::demand_type::DemandType;
 use crate::refusals::TooManyHomes;
 
@@ -19,7 +20,7 @@ impl Composition {
     pub fn with_one(&self, more: DemandType) -> Result<Composition, TooManyHomes>
         ensures { λ r. ⌜ Made (raised (position more) (now (self .entry) .counts)) r ⌝ }
     {
-        if self.homes() == 24 {
+        if self.homes() == MOST {
             return Err(TooManyHomes);
         }
         let mut counts = self.counts;

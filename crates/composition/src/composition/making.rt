@@ -3,6 +3,7 @@ ghost use mathlib.Core.Path.{_≡_};
 ghost use Rattle.composition.specs.Counts.{total, nobody};
 ghost use Rattle.composition.specs.Made.{Made};
 use super::Composition;
+use super::MOST;
 use crate::refusals::TooManyHomes;
 
 impl Composition {
@@ -10,7 +11,7 @@ impl Composition {
     pub fn new(counts: [u8; 4]) -> Result<Composition, TooManyHomes>
         ensures { λ r. ⌜ Made counts r ⌝ }
     {
-        if homes_in(&counts) > 24 {
+        if homes_in(&counts) > MOST as u16 {
             return Err(TooManyHomes);
         }
         Ok(Composition { counts })

@@ -1,7 +1,8 @@
 // Where the groups inside a group stand in a table.
-ghost use Prim.Native.Nat.{_+_, _/_, _%_};
+ghost use Prim.Native.Nat.{_+_, _/_, _%_, _<_};
+ghost use mathlib.Core.Bool.{true};
 ghost use mathlib.Core.Path.{_≡_};
-ghost use Rattle.composition.specs.Counts.{fits, size, place, at-place, step};
+ghost use Rattle.composition.specs.Counts.{Inside, fits, size, place, at-place, step};
 ghost use Rattle.composition.specs.Types.{position};
 use super::Composition;
 use crate::demand_type::DemandType;
@@ -17,7 +18,9 @@ impl Composition {
 
     // Whether this group lies inside another.
     pub fn fits(&self, inside: &Composition) -> bool
-        ensures { λ r. ⌜ r ≡ fits (now (self .entry) .counts) (now (inside .entry) .counts) ⌝ }
+        ensures value { λ r. ⌜ r ≡ fits (now (self .entry) .counts) (now (inside .entry) .counts) ⌝ }
+        ensures only { λ r. ⌜ (r ≡ true → Inside (now (self .entry) .counts) (now (inside .entry) .counts)) ⌝ }
+        ensures always { λ r. ⌜ (Inside (now (self .entry) .counts) (now (inside .entry) .counts) → r ≡ true) ⌝ }
     {
         let [a, b, c, d] = self.counts;
         let [w, x, y, z] = inside.counts;
@@ -35,12 +38,14 @@ impl Composition {
         w as usize + (a as usize + 1) * rest
     }
 
-    // The group at a place inside this one.
-    pub fn at(&self, place: usize) -> Composition
-        ensures { λ r. ⌜ r .counts ≡ at-place (now (self .entry) .counts) place ⌝ }
+    // The group at a place inside this one; each place below the size has its own.
+    pub fn at(&self, index: usize) -> Composition
+        ensures value { λ r. ⌜ r .counts ≡ at-place (now (self .entry) .counts) index ⌝ }
+        ensures inside { λ r. ⌜ Inside (r .counts) (now (self .entry) .counts) ⌝ }
+        ensures stands { λ r. ⌜ (index < size (now (self .entry) .counts) → place (now (self .entry) .counts) (r .counts) ≡ index) ⌝ }
     {
         let [a, b, c, d] = self.counts;
-        let (w, left) = digit(place, a);
+        let (w, left) = digit(index, a);
         let (x, left) = digit(left, b);
         let (y, left) = digit(left, c);
         let (z, _) = digit(left, d);
@@ -64,11 +69,11 @@ impl Composition {
     }
 }
 
-// The count that a place gives to a type with at most `most` homes, and what is left of the place for the types after it.
-fn digit(place: usize, most: u8) -> (u8, usize)
-    ensures count { λ r. ⌜ r .0 ≡ place % (most + 1) ⌝ }
-    ensures left { λ r. ⌜ r .1 ≡ place / (most + 1) ⌝ }
+// The count that what is left of a place gives to a type with at most `most` homes, and the rest for the types after it.
+fn digit(left: usize, most: u8) -> (u8, usize)
+    ensures count { λ r. ⌜ r .0 ≡ left % (most + 1) ⌝ }
+    ensures rest { λ r. ⌜ r .1 ≡ left / (most + 1) ⌝ }
 {
     let radix = most as usize + 1;
-    ((place % radix) as u8, place / radix)
+    ((left % radix) as u8, left / radix)
 }

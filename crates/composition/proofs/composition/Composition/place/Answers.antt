@@ -1,7 +1,7 @@
-use mathlib.Core.Path.{sym}
-use borrow.Author.Needs.{needs}
+use native.Mathlib.Omega.{arith}
 use Rattle.composition.proofs.Four.{place-four}
 use Rattle.composition.proofs.composition.Composition.place.Needs as need
 
 pub returns : need.returns
-returns c = sym (place-four (c .args .self .now .counts) (c .args .of .now .counts) (search needs) (search needs))
+returns c =
+    omega (arith, place-four (c .args .self .now .counts) (c .args .of .now .counts) (c .args .self .now .four) (c .args .of .now .four))

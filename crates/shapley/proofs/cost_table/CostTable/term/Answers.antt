@@ -9,20 +9,20 @@ use Rattle.composition.specs.Counts.{Inside}
 use Rattle.composition.specs.Types.{position}
 use Rattle.shapley.specs.CostTables.{cost-in}
 use Rattle.composition.proofs.Places.{raised-inside}
-use Rattle.shapley.proofs.Terms.{others-fewer, group-inside, read-term}
+use Rattle.shapley.proofs.Terms.{others-fewer, read-term}
 use Rattle.shapley.proofs.cost_table.CostTable.term.Needs as need
 
 pub factor-requires : need.factor-requires
 factor-requires c κs =
     record {
       fewer = others-fewer (position (c .args .of)) _ _ (c .pre .fewer) (c .pre .some);
-      inside = group-inside (c .args .place) _ _ (c .at-group .ensures);
+      inside = c .at-group .ensures .inside;
     }
 
 pub added-requires : need.added-requires
 added-requires c κs =
     let group = c .at-group .result .counts in
-    let inside : Inside group (c .args .others .now .counts) = group-inside (c .args .place) _ _ (c .at-group .ensures) in
+    let inside : Inside group (c .args .others .now .counts) = c .at-group .ensures .inside in
     raised-inside (position (c .args .of)) group (c .args .self .now .homes .counts) (c .pre .some)
     (subst (λ (ms : List ℕ). Inside group ms) (c .pre .fewer) inside)
 
@@ -44,7 +44,7 @@ returns c =
     record {
       value = plain
           ∙ read-term (position (c .args .of)) (c .args .place) (c .factor .result) (self .homes .counts) (c .args .others .now .counts) (c .at-group .result .counts) (cost-in self) _ _
-          (c .pre .fewer) (c .at-group .ensures) (c .factor .ensures .value) (omega (arith, ints) ∙ added .value) (times .value);
+          (c .pre .fewer) (c .at-group .ensures .value) (c .factor .ensures .value) (omega (arith, ints) ∙ added .value) (times .value);
       low = omega (arith, ints);
       high = omega (arith, ints);
     }
