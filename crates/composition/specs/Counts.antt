@@ -10,6 +10,10 @@ abbrev pub total : List ℕ → ℕ
 total [] = 0
 total (n ∷ ns) = n + total ns
 
+-- the most homes that a group can have
+abbrev pub most : ℕ
+most = 24
+
 -- the group of no homes
 abbrev pub nobody : List ℕ
 nobody = 0 ∷ 0 ∷ 0 ∷ 0 ∷ []

@@ -2,7 +2,7 @@
 use mathlib.Core.Path.{_≡_}
 use mathlib.Core.List.{List}
 use Prim.Native.Nat.{ℕ, _<_}
-use Rattle.composition.specs.Counts.{total, count, lowered}
+use Rattle.composition.specs.Counts.{most, total, count, lowered}
 use Rattle.composition.specs.declared.composition.Composition.{Composition}
 use Rattle.composition.specs.declared.refusals.TooManyHomes.{TooManyHomes}
 use Rattle.std.specs.declared.option.Option.{Option}
@@ -13,7 +13,7 @@ use Rattle.std.specs.declared.result.Result.the-variants.{Ok, Err}
 -- counts of at most 24 homes in all make a composition that has them; any others are refused
 abbrev pub Made : List ℕ → Result Composition TooManyHomes → Type 0
 Made ns (Ok c) = c .counts ≡ ns
-Made ns (Err e) = 24 < total ns
+Made ns (Err e) = most < total ns
 
 -- taking one home of a type away: the group with one fewer, or nothing if there is none to take
 abbrev pub Without : ℕ → List ℕ → Option Composition → Type 0

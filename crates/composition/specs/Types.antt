@@ -18,7 +18,11 @@ position Four = 3
 abbrev pub number-of : DemandType → ℕ
 number-of k = position k + 1
 
+-- no type has this number
+abbrev pub NoType : ℕ → Type 0
+NoType n = (k : DemandType) → n ≡ number-of k → ⊥
+
 -- what asking for the type with a number answers: the type that has it, or that none has
 abbrev pub Numbered : ℕ → Result DemandType NoSuchType → Type 0
 Numbered n (Ok k) = n ≡ number-of k
-Numbered n (Err e) = (k : DemandType) → n ≡ number-of k → ⊥
+Numbered n (Err e) = NoType n

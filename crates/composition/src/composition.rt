@@ -2,7 +2,7 @@
 ghost use Prim.Native.Nat.{_≤_};
 ghost use mathlib.Core.Path.{_≡_};
 ghost use lib.ListN.{length};
-ghost use Rattle.composition.specs.Counts.{total};
+ghost use Rattle.composition.specs.Counts.{most, total};
 
 mod adding;
 mod changing;
@@ -16,5 +16,5 @@ const MOST: u8 = 24;
 pub struct Composition {
     counts: [u8; 4],
     ghost four: { length counts ≡ 4 },
-    ghost few: { total counts ≤ 24 },
+    ghost few: { total counts ≤ most },
 }

@@ -1,6 +1,6 @@
 // One of the four demand types that a supply contract gives a home.
 ghost use mathlib.Core.Path.{_≡_};
-ghost use Rattle.composition.specs.Types.{Numbered, position};
+ghost use Rattle.composition.specs.Types.{Numbered, number-of, position};
 use crate::refusals::NoSuchType;
 
 #[derive(Clone, Copy)]
@@ -22,6 +22,18 @@ impl DemandType {
             3 => Ok(DemandType::Three),
             4 => Ok(DemandType::Four),
             _ => Err(NoSuchType),
+        }
+    }
+
+    // The number that people know the type by.
+    pub fn number(self) -> u8
+        ensures { λ r. ⌜ r ≡ number-of self ⌝ }
+    {
+        match self {
+            DemandType::One => 1,
+            DemandType::Two => 2,
+            DemandType::Three => 3,
+            DemandType::Four => 4,
         }
     }
 

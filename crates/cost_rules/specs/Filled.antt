@@ -9,7 +9,7 @@ use Rattle.std.specs.declared.option.Option.{Option}
 use Rattle.std.specs.declared.option.Option.the-variants.{Some, None}
 use Rattle.std.specs.declared.result.Result.{Result}
 use Rattle.std.specs.declared.result.Result.the-variants.{Ok, Err}
-use Rattle.composition.specs.Counts.{total, size, nobody}
+use Rattle.composition.specs.Counts.{most, total, size, nobody}
 use Rattle.cost_rules.specs.Limits.{Within}
 use Rattle.cost_rules.specs.declared.listed.ListedRule.{ListedRule}
 use Rattle.cost_rules.specs.declared.refusals.ListedRefusal.{ListedRefusal}
@@ -26,10 +26,10 @@ FirstOutside table None = WithinBefore table (length table)
 
 -- the ground of a refusal; none of those that go before it holds
 abbrev pub Ground : List ℕ → List ℤ → ListedRefusal → Type 0
-Ground box table BoxTooLarge = 24 < total box
-Ground box table WrongLength = (total box ≤ 24) × (length table ≡ size box → ⊥)
-Ground box table FirstNotZero = (total box ≤ 24) × (length table ≡ size box) × (getD table 0 (pos 0) ≡ pos 0 → ⊥)
-Ground box table (OutsideLimits p) = (total box ≤ 24) × (length table ≡ size box) × (getD table 0 (pos 0) ≡ pos 0) × FirstOutside table (Some p)
+Ground box table BoxTooLarge = most < total box
+Ground box table WrongLength = (total box ≤ most) × (length table ≡ size box → ⊥)
+Ground box table FirstNotZero = (total box ≤ most) × (length table ≡ size box) × (getD table 0 (pos 0) ≡ pos 0 → ⊥)
+Ground box table (OutsideLimits p) = (total box ≤ most) × (length table ≡ size box) × (getD table 0 (pos 0) ≡ pos 0) × FirstOutside table (Some p)
 
 -- the rule holds this box and this table
 pub record Holds (rule : ListedRule) (box : List ℕ) (table : List ℤ) : Type 0 where

@@ -1,22 +1,16 @@
 -- The head rule: a fee for each home of a type.
-use mathlib.Core.Path.{_≡_, ap, subst}
+use mathlib.Core.Path.{_≡_}
 use mathlib.Core.List.{List}
-use Prim.Native.Nat.{ℕ, _<_, _*_, _≤_}
-use native.Mathlib.Omega.{arith}
-use native.Mathlib.Nat.{mul-le-mul-right}
+use Prim.Native.Nat.{_<_}
 use lib.IntN.{ℤ, pos}
-use lib.ListN.{length, getD}
-use Rattle.std.proofs.shelf.Signed.{ints}
+use lib.ListN.{getD}
 use Rattle.std.specs.declared.result.Result.{Result}
 use Rattle.std.specs.declared.result.Result.the-variants.{Ok, Err}
-use Rattle.composition.proofs.Amounts.{weighted-between, weighted-nobody}
 use Rattle.composition.specs.Amounts.{weighted}
-use Rattle.composition.specs.Counts.{total}
 use Rattle.composition.specs.Types.{position}
 use Rattle.composition.specs.declared.demand_type.DemandType.{DemandType}
 use Rattle.cost_rules.specs.Fees.{IsFee}
-use Rattle.cost_rules.specs.Limits.{Within}
-use Rattle.cost_rules.specs.Meanings.{Meaning, Free, Limited}
+use Rattle.cost_rules.specs.Meanings.{Meaning}
 use Rattle.cost_rules.specs.declared.head.HeadRule.{HeadRule}
 use Rattle.cost_rules.specs.declared.refusals.FeeOutside.{FeeOutside}
 
@@ -37,14 +31,3 @@ HeadMade fees (Err e) = (IsFee (fee-of fees (e .of)) → ⊥) × ((k : DemandTyp
 abbrev pub Accepts : ℤ → DemandType → Result (Unit {0}) FeeOutside → Type 0
 Accepts fee k (Ok done) = IsFee fee
 Accepts fee k (Err e) = (e .of ≡ k) × (IsFee fee → ⊥)
-
-pub headed-free : (fees : List ℤ) → length fees ≡ 4 → Free (headed fees)
-headed-free fees four = ap Ok (weighted-nobody fees four)
-
--- 24 homes cannot be charged more than a rule may cost
-pub headed-limited : (fees : List ℤ) → ((i : ℕ) → i < 4 → IsFee (getD fees i (pos 0))) → length fees ≡ 4 → Limited (headed fees)
-headed-limited fees small four n length-n few c e =
-    let same : weighted n fees ≡ c = cc in
-    let most : total n * 1000000 ≤ 24 * 1000000 = mul-le-mul-right 1000000 few in
-    let bound = weighted-between 1000000 n fees (λ i h. small i (omega (arith, h, four))) in
-    subst Within same (omega (arith, ints, bound .0, most), omega (arith, ints, bound .1, most))

@@ -5,6 +5,7 @@ pub mod Heads
 pub mod Limits
 pub mod Listed
 pub mod Meanings
+pub mod Owed
 pub mod Prices
 pub mod Refusals
 pub mod Sums

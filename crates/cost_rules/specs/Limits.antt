@@ -1,7 +1,7 @@
 -- What a cost may be, in hundredths of a penny.
 use Prim.Native.Nat.{ℕ}
-use lib.IntN.{ℤ, pos, negℤ}
-use lib.Signed.{_≤ℤ_}
+use lib.IntN.{ℤ}
+use Rattle.composition.specs.Amounts.{Between}
 
 -- the most that a group may cost, or earn
 abbrev pub limit : ℕ
@@ -9,4 +9,4 @@ limit = 500000000
 
 -- a cost within the limits, on either side
 abbrev pub Within : ℤ → Type 0
-Within c = (negℤ (pos limit) ≤ℤ c) × (c ≤ℤ pos limit)
+Within = Between limit

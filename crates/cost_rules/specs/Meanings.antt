@@ -4,7 +4,7 @@ use mathlib.Core.List.{List}
 use Prim.Native.Nat.{ℕ, _≤_}
 use lib.IntN.{ℤ, pos}
 use lib.ListN.{length}
-use Rattle.composition.specs.Counts.{total, nobody}
+use Rattle.composition.specs.Counts.{most, total, nobody}
 use Rattle.std.specs.declared.result.Result.{Result}
 use Rattle.std.specs.declared.result.Result.the-variants.{Ok}
 use Rattle.cost_rules.specs.Limits.{Within}
@@ -20,7 +20,7 @@ Free f = f nobody ≡ Ok (pos 0)
 
 -- every composition that has a cost has one within the limits
 abbrev pub Limited : Meaning → Type 0
-Limited f = (n : List ℕ) → length n ≡ 4 → total n ≤ 24 → (c : ℤ) → f n ≡ Ok c → Within c
+Limited f = (n : List ℕ) → length n ≡ 4 → total n ≤ most → (c : ℤ) → f n ≡ Ok c → Within c
 
 -- what every rule owes
 pub record Lawful (f : Meaning) : Type 0 where

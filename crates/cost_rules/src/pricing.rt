@@ -1,13 +1,17 @@
 // The limits of what a group may cost.
 ghost use mathlib.Core.Path.{_≡_};
-ghost use Rattle.cost_rules.specs.Prices.{priced};
+ghost use Rattle.cost_rules.specs.Prices.{priced, Priced};
 use crate::fault::Fault;
+
+// The most that a group may cost, or earn.
+const LIMIT: i64 = 500_000_000;
 
 // An amount as a cost, or the fault of one outside the limits.
 pub fn price(amount: i64) -> Result<i64, Fault>
-    ensures { λ r. ⌜ r ≡ priced amount ⌝ }
+    ensures value { λ r. ⌜ r ≡ priced amount ⌝ }
+    ensures law { λ r. ⌜ Priced amount r ⌝ }
 {
-    if amount < -500_000_000 || amount > 500_000_000 {
+    if amount < -LIMIT || amount > LIMIT {
         return Err(Fault {
             number: 10,
             rung: 0,

@@ -28,7 +28,7 @@ fn main(rt: LibcRuntime) -> Result<(), AnyError> {
         left: listed,
         right: fees(&rt)?,
     };
-    let _account = draft_and_withdraw(&rt, account, &rule, &mut table)?;
+    let _account = draft_and_post(&rt, account, &rule, &mut table)?;
     Ok(())
 }
 
@@ -78,7 +78,9 @@ fn list_costs<'a>(
     rule: &mut ListedRule<'a>,
     costs: &'a [i32],
 ) -> Result<(), AnyError> {
-    if rule.fill([2, 1, 0, 0], costs).is_err() {
+    if let Err(refusal) = rule.fill([2, 1, 0, 0], costs) {
+        let code = refusal.number();
+        println!(rt, "The costs would be listed. Refused, number {code}.")?;
         return Err("the listed costs are no rule".into());
     }
     println!(
@@ -93,14 +95,20 @@ fn list_costs<'a>(
 }
 
 fn fees(rt: &LibcRuntime) -> Result<HeadRule, AnyError> {
-    let Ok(fees) = HeadRule::new([10, 20, 0, 0]) else {
-        return Err("the fees are no rule".into());
-    };
-    println!(
-        rt,
-        "To the rule are added fees for each home: 10 for type 1, and 20 for type 2."
-    )?;
-    Ok(fees)
+    match HeadRule::new([10, 20, 0, 0]) {
+        Ok(fees) => {
+            println!(
+                rt,
+                "To the rule are added fees for each home: 10 for type 1, and 20 for type 2."
+            )?;
+            Ok(fees)
+        }
+        Err(refusal) => {
+            let code = refusal.number();
+            println!(rt, "Fees would be added. Refused, number {code}.")?;
+            Err("the fees are no rule".into())
+        }
+    }
 }
 
 fn draft<R: CostRule>(
@@ -109,14 +117,17 @@ fn draft<R: CostRule>(
     rule: &R,
     table: &mut [i64],
 ) -> Result<Draft, AnyError> {
-    let Ok(draft) = account.draft(rule, table) else {
-        return Err("the draft is refused".into());
-    };
-    show_draft(rt, &draft)?;
-    for number in [1u8, 2, 3] {
-        show_line(rt, &draft, number)?;
+    match account.draft(rule, table) {
+        Ok(draft) => {
+            show_draft(rt, &draft)?;
+            Ok(draft)
+        }
+        Err(refused) => {
+            let code = refused.refusal.number();
+            println!(rt, "Bills would be drafted. Refused, number {code}.")?;
+            Err("the draft is refused".into())
+        }
     }
-    Ok(draft)
 }
 
 fn draft_and_post<R: CostRule>(
@@ -156,7 +167,11 @@ fn show_draft(rt: &LibcRuntime, draft: &Draft) -> io::Result<()> {
     println!(
         rt,
         "  Each home gets {rebate}p back, and {purse} will be in the purse."
-    )
+    )?;
+    for number in [1u8, 2, 3] {
+        show_line(rt, draft, number)?;
+    }
+    Ok(())
 }
 
 fn show_line(rt: &LibcRuntime, draft: &Draft, number: u8) -> io::Result<()> {
@@ -164,7 +179,7 @@ fn show_line(rt: &LibcRuntime, draft: &Draft, number: u8) -> io::Result<()> {
     match draft.line(number) {
         Ok(Some((share, bill))) => println!(
             rt,
-            "  A home of type {number}: share {share}, bill {bill} pence."
+            "  A home of type {number}: share {share}/{lcm}, bill {bill}p."
         ),
         Ok(None) => println!(rt, "  Type {number} has no homes, and no line."),
         Err(refusal) => {

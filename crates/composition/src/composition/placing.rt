@@ -1,8 +1,10 @@
 // Where the groups inside a group stand in a table.
-ghost use Prim.Native.Nat.{_+_, _/_, _%_, _<_};
+ghost use Prim.Native.Nat.{ℕ, _+_, _/_, _%_, _<_};
 ghost use mathlib.Core.Bool.{true};
+ghost use mathlib.Core.List.{List};
 ghost use mathlib.Core.Path.{_≡_};
-ghost use Rattle.composition.specs.Counts.{Inside, fits, size, place, at-place, step};
+ghost use lib.ListN.{length};
+ghost use Rattle.composition.specs.Counts.{Inside, fits, size, place, at-place, step, raised};
 ghost use Rattle.composition.specs.Types.{position};
 use super::Composition;
 use crate::demand_type::DemandType;
@@ -24,12 +26,15 @@ impl Composition {
     {
         let [a, b, c, d] = self.counts;
         let [w, x, y, z] = inside.counts;
+        // `&` has no branch, so that the proof has one way
         (a <= w) & ((b <= x) & ((c <= y) & (d <= z)))
     }
 
     // The place of a group inside this one.
     pub fn place(&self, of: &Composition) -> usize
-        ensures { λ r. ⌜ r ≡ place (now (self .entry) .counts) (now (of .entry) .counts) ⌝ }
+        ensures value { λ r. ⌜ r ≡ place (now (self .entry) .counts) (now (of .entry) .counts) ⌝ }
+        ensures within { λ r. ⌜ (Inside (now (of .entry) .counts) (now (self .entry) .counts) → r < size (now (self .entry) .counts)) ⌝ }
+        ensures back { λ r. ⌜ (Inside (now (of .entry) .counts) (now (self .entry) .counts) → at-place (now (self .entry) .counts) r ≡ now (of .entry) .counts) ⌝ }
     {
         let [a, b, c, _] = self.counts;
         let [w, x, y, z] = of.counts;
@@ -56,7 +61,8 @@ impl Composition {
 
     // How many places further on a group with one home more of a type stands.
     pub fn step(&self, of: DemandType) -> usize
-        ensures { λ r. ⌜ r ≡ step (position of) (now (self .entry) .counts) ⌝ }
+        ensures value { λ r. ⌜ r ≡ step (position of) (now (self .entry) .counts) ⌝ }
+        ensures further { λ r. ⌜ ((n : List ℕ) → length n ≡ 4 → place (now (self .entry) .counts) (raised (position of) n) ≡ place (now (self .entry) .counts) n + r) ⌝ }
     {
         let [a, b, c, _] = self.counts;
         let (a, b, c) = (a as usize + 1, b as usize + 1, c as usize + 1);

@@ -1,5 +1,6 @@
 // What a head rule answers.
-ghost use Rattle.cost_rules.specs.Heads.{headed, headed-free, headed-limited};
+ghost use Rattle.cost_rules.specs.Heads.{headed};
+ghost use Rattle.cost_rules.specs.Owed.{headed-free, headed-limited};
 use super::HeadRule;
 use crate::cost_rule::CostRule;
 use crate::fault::Fault;

@@ -1,6 +1,7 @@
 // What a listed rule answers.
 ghost use denote.Ref.{now};
-ghost use Rattle.cost_rules.specs.Listed.{listed, listed-free, listed-limited};
+ghost use Rattle.cost_rules.specs.Listed.{listed};
+ghost use Rattle.cost_rules.specs.Owed.{listed-free, listed-limited};
 use super::ListedRule;
 use crate::cost_rule::CostRule;
 use crate::fault::Fault;
