@@ -23,10 +23,10 @@ use Rattle.shapley.specs.Subsets.{counts-of}
 use Rattle.shapley.proofs.CommonMultiples.{lcm-to-is-least}
 use Rattle.shapley.proofs.Shapley.{home-counted, share-is-shapley}
 use Rattle.shapley.proofs.SubsetsToCounts.{length-counts, length-is-total}
-use Rattle.account.specs.Bills.{cost-in, cost-by, homes-in, line-of, Line}
+use Rattle.account.specs.Bills.{cost-of, cost-by, homes-in, line-of, Line}
 use Rattle.account.specs.Calls.{Accepted}
 use Rattle.account.specs.Promise.{FairShare}
-use Rattle.account.specs.Runs.{Standing, settled, pending, Run, opens, joins, leaves, drafts, refused, posts, withdraws, AreHomes}
+use Rattle.account.specs.Runs.{Standing, account-open, pending, Run, opens, joins, leaves, drafts, refused, posts, withdraws, AreHomes}
 use Rattle.account.specs.Terms.{Terms}
 use Rattle.account.specs.declared.account.Account.{Account}
 use Rattle.account.specs.declared.draft.Draft.{Draft}
@@ -41,7 +41,7 @@ pub record DraftedBy (terms : Terms) (d : Draft) (f : Meaning) : Type 0 where
   pub accepted : Accepted terms f (d .account) table d after
 
 abbrev Stands : Terms → Standing → Type 0
-Stands terms (settled a) = Unit {0}
+Stands terms (account-open a) = Unit {0}
 Stands terms (pending d f) = DraftedBy terms d f
 
 stands : {terms : Terms} {last : ℕ} {s : Standing} → Run terms last s → Stands terms s
@@ -60,8 +60,8 @@ drafted-by h = stands h
 -- ---- its costs
 
 -- an answer with a cost is the answer with its own cost
-own-cost : (r : Result ℤ Fault) (c : ℤ) → r ≡ Ok c → r ≡ Ok (cost-in r)
-own-cost r c e = e ∙ ap Ok (sym (ap cost-in e))
+own-cost : (r : Result ℤ Fault) (c : ℤ) → r ≡ Ok c → r ≡ Ok (cost-of r)
+own-cost r c e = e ∙ ap Ok (sym (ap cost-of e))
 
 -- every composition inside stands somewhere in the table, which is filled to its end with costs
 pub inside-has-cost : {terms : Terms} {d : Draft} {f : Meaning} → DraftedBy terms d f → (n : List ℕ) → Inside n (homes-in d) → f n ≡ Ok (cost-by f n)

@@ -21,7 +21,7 @@ use Rattle.billing.specs.Billing.{Settled}
 use Rattle.shapley.proofs.Shapley.{share-cong}
 use Rattle.shapley.specs.CostTables.{costs-by}
 use Rattle.shapley.specs.Shares.{share}
-use Rattle.account.specs.Bills.{cost-in, cost-by, homes-in, line-of, Line, Billed}
+use Rattle.account.specs.Bills.{cost-of, cost-by, homes-in, line-of, Line, Billed}
 use Rattle.account.specs.declared.account.Account.{Account}
 use Rattle.account.specs.declared.draft.Draft.{Draft}
 use Rattle.account.specs.Filling.{FilledTo, FaultAt, CostAt, FillEnds}
@@ -108,7 +108,7 @@ pub filled-costs :
     → (n : List ℕ)
     → Inside n counts
     → costs-by counts after n ≡ cost-by f n
-filled-costs f counts before after filled n inside = sym (ap cost-in (filled .costs n inside (place-below counts n inside)))
+filled-costs f counts before after filled n inside = sym (ap cost-of (filled .costs n inside (place-below counts n inside)))
 
 -- bills by costs that agree inside the account are the same bills
 pub billed-alike :

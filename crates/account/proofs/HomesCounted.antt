@@ -14,7 +14,7 @@ use Rattle.composition.specs.Types.{position, number-of}
 use Rattle.composition.specs.declared.demand_type.DemandType.{DemandType}
 use Rattle.composition.specs.declared.demand_type.DemandType.the-variants.{One, Two, Three, Four}
 use Rattle.composition.proofs.Changes.{position-below}
-use Rattle.account.specs.Calls.{Joined, Left}
+use Rattle.account.specs.Calls.{Joined, Departed}
 use Rattle.account.specs.Runs.{Standing, account-of, Run, opens, joins, leaves, drafts, refused, posts, withdraws, taken, joins-taken, leaves-taken}
 use Rattle.account.specs.Terms.{Terms}
 use Rattle.account.specs.declared.account.Account.{Account}
@@ -58,7 +58,7 @@ joined-homes a b number (Ok done) (k₀, e, w) k =
 joined-homes a b number (Err NoTypeToJoin) (n, e) k = rw e (omega arith)
 joined-homes a b number (Err Full) (k₀, n, t, e) k = rw e (omega arith)
 
-left-homes : (a b : Account) (number : ℕ) (r : Result (Unit {0}) LeaveRefusal) → Left a number r b → (k : DemandType) → homes-of-type b k + taken number r k ≡ homes-of-type a k
+left-homes : (a b : Account) (number : ℕ) (r : Result (Unit {0}) LeaveRefusal) → Departed a number r b → (k : DemandType) → homes-of-type b k + taken number r k ≡ homes-of-type a k
 left-homes a b number (Ok done) (k₀, e, p, w) k =
     ap₂ (λ (n : ℕ) (same : Bool). n + cond same 1 0) (ap (count (position k)) (w .homes-are)) (sym (by-number number k₀ k e))
     ∙ count-lowered (position k₀) (position k) (a .homes .counts) p

@@ -1,6 +1,6 @@
 -- The promise over everything that an account can go through holds.
 use Prim.Native.Nat.{ℕ}
-use Rattle.cost_rules.specs.Sums.{sum-lawful}
+use Rattle.cost_rules.specs.Owed.{sum-lawful}
 use Rattle.account.specs.Promise.{Promise}
 use Rattle.account.specs.Terms.{Terms}
 use Rattle.account.proofs.AcceptedDrafts.{drafted-by, inside-has-cost, over-the-least, fair-share}

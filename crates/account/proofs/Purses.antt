@@ -11,7 +11,7 @@ use Rattle.cost_rules.specs.Meanings.{Meaning}
 use Rattle.rounding.proofs.Integers.{*ℤ-+ℤ}
 use Rattle.billing.proofs.BillingLaws.{purse-below}
 use Rattle.account.specs.Bills.{cost-by, homes-in}
-use Rattle.account.specs.Calls.{Joined, Left}
+use Rattle.account.specs.Calls.{Joined, Departed}
 use Rattle.account.specs.Promise.{Small}
 use Rattle.account.specs.Runs.{Standing, account-of, Run, opens, joins, leaves, drafts, refused, posts, withdraws, bills-of, posted-bills, posted-costs, last-billed}
 use Rattle.account.specs.Terms.{Terms}
@@ -31,7 +31,7 @@ joined-purse a b number (Ok done) (k, e, w) = w .purse-stays
 joined-purse a b number (Err NoTypeToJoin) (n, e) = ap (λ (c : Account). c .purse) e
 joined-purse a b number (Err Full) (k, n, t, e) = ap (λ (c : Account). c .purse) e
 
-left-purse : (a b : Account) (number : ℕ) (r : Result (Unit {0}) LeaveRefusal) → Left a number r b → b .purse ≡ a .purse
+left-purse : (a b : Account) (number : ℕ) (r : Result (Unit {0}) LeaveRefusal) → Departed a number r b → b .purse ≡ a .purse
 left-purse a b number (Ok done) (k, e, p, w) = w .purse-stays
 left-purse a b number (Err NoTypeToLeave) (n, e) = ap (λ (c : Account). c .purse) e
 left-purse a b number (Err NoneThere) (k, n, z, e) = ap (λ (c : Account). c .purse) e

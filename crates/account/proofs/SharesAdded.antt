@@ -22,7 +22,7 @@ use Rattle.cost_rules.specs.declared.fault.Fault.{Fault}
 use Rattle.shapley.specs.Shares.{share}
 use Rattle.shapley.specs.Subsets.{counts-of}
 use Rattle.shapley.proofs.Shapley.{home-counted, share-adds, share-cong}
-use Rattle.account.specs.Bills.{cost-in, cost-by, homes-in, line-of}
+use Rattle.account.specs.Bills.{cost-of, cost-by, homes-in, line-of}
 use Rattle.account.specs.Promise.{SharesAdd}
 use Rattle.account.specs.Runs.{pending, Run, AreHomes}
 use Rattle.account.specs.Terms.{Terms}
@@ -40,7 +40,7 @@ priced-same a c = go (leZ (negℤ (pos limit)) a && leZ a (pos limit))
     go false e = cc
 
 -- where two answers together have a cost, it is the sum of their costs
-both-adds : (x y : Result ℤ Fault) (c : ℤ) → both x y ≡ Ok c → c ≡ cost-in x +ℤ cost-in y
+both-adds : (x y : Result ℤ Fault) (c : ℤ) → both x y ≡ Ok c → c ≡ cost-of x +ℤ cost-of y
 both-adds (Ok a) (Ok b) c e = priced-same (a +ℤ b) c e
 both-adds (Ok a) (Err g) c e = cc
 both-adds (Err f) y c e = cc

@@ -21,13 +21,13 @@ use Rattle.account.specs.declared.account.Account.{Account}
 use Rattle.account.specs.declared.draft.Draft.{Draft}
 
 -- the cost in a rule's answer; a fault has none, and reads as 0
-abbrev pub cost-in : Result ℤ Fault → ℤ
-cost-in (Ok c) = c
-cost-in (Err fault) = pos 0
+abbrev pub cost-of : Result ℤ Fault → ℤ
+cost-of (Ok c) = c
+cost-of (Err fault) = pos 0
 
 -- what compositions cost by a rule's meaning
 abbrev pub cost-by : Meaning → List ℕ → ℤ
-cost-by f n = cost-in (f n)
+cost-by f n = cost-of (f n)
 
 -- the counts of the homes that a draft bills
 abbrev pub homes-in : Draft → List ℕ
@@ -37,10 +37,10 @@ homes-in d = d .account .homes .counts
 abbrev pub line-of : Draft → DemandType → Option (ℤ × ℤ)
 line-of d k = getD (d .lines) (position k) None
 
--- a line is absent without homes of the type, and else has this share
+-- a line is absent without homes of the type, and else has the share h
 abbrev pub Line : ℕ → ℤ → Option (ℤ × ℤ) → Type 0
-Line homes share None = homes ≡ 0
-Line homes share (Some line) = (0 < homes) × (line .0 ≡ share)
+Line homes h None = homes ≡ 0
+Line homes h (Some line) = (0 < homes) × (line .0 ≡ h)
 
 -- how bills are made of the shares in the lines, the cost of all homes and the purse
 pub record MadeOfShares (c : List ℕ → ℤ) (d : Draft) : Type 0 where

@@ -7,8 +7,8 @@ use lib.ListN.{length}
 use Rattle.std.specs.declared.option.Option.{Option}
 use Rattle.std.specs.declared.result.Result.{Result}
 use Rattle.std.specs.declared.result.Result.the-variants.{Ok, Err}
-use Rattle.composition.specs.Counts.{nobody, total, size, count, raised, lowered}
-use Rattle.composition.specs.Types.{position, number-of}
+use Rattle.composition.specs.Counts.{most, nobody, total, size, count, raised, lowered}
+use Rattle.composition.specs.Types.{position, number-of, NoType}
 use Rattle.composition.specs.declared.demand_type.DemandType.{DemandType}
 use Rattle.composition.specs.declared.refusals.NoSuchType.{NoSuchType}
 use Rattle.cost_rules.specs.Meanings.{Meaning}
@@ -37,22 +37,18 @@ pub record WithHomes (counts : List ℕ) (a b : Account) : Type 0 where
   pub purse-stays : b .purse ≡ a .purse
   pub last-stays : b .last ≡ a .last
 
--- no type has this number
-abbrev pub NoType : ℕ → Type 0
-NoType number = (k : DemandType) → number ≡ number-of k → ⊥
-
 -- joining adds one home of the type with the number; it refuses a number of no type, and then a 25th home
 abbrev pub Joined : Account → ℕ → Result (Unit {0}) JoinRefusal → Account → Type 0
 Joined a number (Ok done) b = (k : DemandType) × (number ≡ number-of k) × WithHomes (raised (position k) (a .homes .counts)) a b
 Joined a number (Err NoTypeToJoin) b = NoType number × (b ≡ a)
-Joined a number (Err Full) b = (k : DemandType) × (number ≡ number-of k) × (total (a .homes .counts) ≡ 24) × (b ≡ a)
+Joined a number (Err Full) b = (k : DemandType) × (number ≡ number-of k) × (total (a .homes .counts) ≡ most) × (b ≡ a)
 
 -- leaving takes one home of the type away; it refuses a number of no type, and then a type without homes
-abbrev pub Left : Account → ℕ → Result (Unit {0}) LeaveRefusal → Account → Type 0
-Left a number (Ok done) b =
+abbrev pub Departed : Account → ℕ → Result (Unit {0}) LeaveRefusal → Account → Type 0
+Departed a number (Ok done) b =
     (k : DemandType) × (number ≡ number-of k) × (0 < count (position k) (a .homes .counts)) × WithHomes (lowered (position k) (a .homes .counts)) a b
-Left a number (Err NoTypeToLeave) b = NoType number × (b ≡ a)
-Left a number (Err NoneThere) b = (k : DemandType) × (number ≡ number-of k) × (count (position k) (a .homes .counts) ≡ 0) × (b ≡ a)
+Departed a number (Err NoTypeToLeave) b = NoType number × (b ≡ a)
+Departed a number (Err NoneThere) b = (k : DemandType) × (number ≡ number-of k) × (count (position k) (a .homes .counts) ≡ 0) × (b ≡ a)
 
 -- a draft may be made: there are homes, the table is long enough, and there is a bill number left
 pub record Ready (terms : Terms) (a : Account) (table : List ℤ) : Type 0 where

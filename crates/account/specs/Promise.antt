@@ -7,7 +7,7 @@ use lib.ListN.{length}
 use Rattle.std.specs.declared.option.Option.{Option}
 use Rattle.std.specs.declared.option.Option.the-variants.{Some, None}
 use Rattle.std.specs.declared.result.Result.the-variants.{Ok}
-use Rattle.composition.specs.Counts.{total, count, Inside}
+use Rattle.composition.specs.Counts.{most, total, count, Inside}
 use Rattle.composition.specs.Types.{position}
 use Rattle.composition.specs.declared.demand_type.DemandType.{DemandType}
 use Rattle.cost_rules.specs.Meanings.{Meaning, Lawful}
@@ -60,11 +60,12 @@ pub record Promise (terms : Terms) (last : ℕ) : Type 0 where
       {s : Standing} (h : Run terms last s) → pos 100 *ℤ posted-bills h ≡ posted-costs h +ℤ pos (account-of s .purse)
   pub the-purse-stays-small : {s : Standing} (h : Run terms last s) → Small (account-of s .purse) (last-billed h)
   pub shares-by-a-sum-are-shares-added :
-      (l₁ l₂ l₃ : ℕ) {d e s : Draft} {f g k : Meaning} (h : Run terms l₁ (pending d f)) (i : Run terms l₂ (pending e g)) (j : Run terms l₃ (pending s k))
-      → ((n : List ℕ) → length n ≡ 4 → total n ≤ 24 → k n ≡ sum-of f g n)
+      (l₁ l₂ l₃ : ℕ) {first second third : Draft} {f g sum : Meaning}
+      (h : Run terms l₁ (pending first f)) (i : Run terms l₂ (pending second g)) (j : Run terms l₃ (pending third sum))
+      → ((n : List ℕ) → length n ≡ 4 → total n ≤ most → sum n ≡ sum-of f g n)
       → (home : DemandType) (others : List DemandType)
       → AreHomes h (home ∷ others)
       → AreHomes i (home ∷ others)
       → AreHomes j (home ∷ others)
-      → SharesAdd d e s home
+      → SharesAdd first second third home
   pub sums-of-rules-are-rules : (f g : Meaning) → Lawful f → Lawful g → Lawful (sum-of f g)

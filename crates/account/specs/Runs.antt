@@ -17,7 +17,7 @@ use Rattle.composition.specs.declared.demand_type.DemandType.the-variants.{One,
 use Rattle.cost_rules.specs.Meanings.{Meaning, Lawful}
 use Rattle.shapley.specs.Subsets.{counts-of}
 use Rattle.account.specs.Bills.{cost-by, homes-in, line-of}
-use Rattle.account.specs.Calls.{Opened, Joined, Left, Drafted, Posted, Withdrawn}
+use Rattle.account.specs.Calls.{Opened, Joined, Departed, Drafted, Posted, Withdrawn}
 use Rattle.account.specs.Terms.{Terms}
 use Rattle.account.specs.declared.account.Account.{Account}
 use Rattle.account.specs.declared.draft.Draft.{Draft}
@@ -27,23 +27,23 @@ use Rattle.account.specs.declared.refusals.LeaveRefusal.{LeaveRefusal}
 
 -- an open account, or a draft that stands, with the meaning of the rule it was drafted by
 pub data Standing : Type 0 where
-  settled : Account → Standing
+  account-open : Account → Standing
   pending : Draft → Meaning → Standing
 
 -- the account as it stands; while a draft stands, the one that it holds
 abbrev pub account-of : Standing → Account
-account-of (settled a) = a
+account-of (account-open a) = a
 account-of (pending d f) = d .account
 
 -- what an account opened with a last bill number can have been through: any calls that its state permits, refused ones too,
 -- each of which begins with the account that the one before it left; drafts by any meaning that owes what a rule owes
 pub data Run (terms : Terms) (last : ℕ) : Standing → Type 0 where
-  opens : {a : Account} → Opened last a → Run terms last (settled a)
-  joins : {a b : Account} → Run terms last (settled a) → (number : ℕ) (r : Result (Unit {0}) JoinRefusal) → Joined a number r b → Run terms last (settled b)
-  leaves : {a b : Account} → Run terms last (settled a) → (number : ℕ) (r : Result (Unit {0}) LeaveRefusal) → Left a number r b → Run terms last (settled b)
+  opens : {a : Account} → Opened last a → Run terms last (account-open a)
+  joins : {a b : Account} → Run terms last (account-open a) → (number : ℕ) (r : Result (Unit {0}) JoinRefusal) → Joined a number r b → Run terms last (account-open b)
+  leaves : {a b : Account} → Run terms last (account-open a) → (number : ℕ) (r : Result (Unit {0}) LeaveRefusal) → Departed a number r b → Run terms last (account-open b)
   drafts :
       {a : Account} {d : Draft}
-      → Run terms last (settled a)
+      → Run terms last (account-open a)
       → (f : Meaning)
       → Lawful f
       → (table after : List ℤ)
@@ -51,14 +51,14 @@ pub data Run (terms : Terms) (last : ℕ) : Standing → Type 0 where
       → Run terms last (pending d f)
   refused :
       {a : Account}
-      → Run terms last (settled a)
+      → Run terms last (account-open a)
       → (f : Meaning)
       → Lawful f
       → (table after : List ℤ) (e : Refused)
       → Drafted terms f a table (Err e) after
-      → Run terms last (settled (e .account))
-  posts : {a : Account} {d : Draft} {f : Meaning} → Run terms last (pending d f) → Posted d a → Run terms last (settled a)
-  withdraws : {a : Account} {d : Draft} {f : Meaning} → Run terms last (pending d f) → Withdrawn d a → Run terms last (settled a)
+      → Run terms last (account-open (e .account))
+  posts : {a : Account} {d : Draft} {f : Meaning} → Run terms last (pending d f) → Posted d a → Run terms last (account-open a)
+  withdraws : {a : Account} {d : Draft} {f : Meaning} → Run terms last (pending d f) → Withdrawn d a → Run terms last (account-open a)
 
 -- one for a call with the number of a type that was taken, else none
 abbrev pub taken : {E : Type 0} → ℕ → Result (Unit {0}) E → DemandType → ℕ
@@ -70,8 +70,8 @@ abbrev pub joins-taken : {terms : Terms} {last : ℕ} {s : Standing} → Run ter
 joins-taken (opens o) k = 0
 joins-taken (joins h number r j) k = joins-taken h k + taken number r k
 joins-taken (leaves h number r l) k = joins-taken h k
-joins-taken (drafts h f l t u d) k = joins-taken h k
-joins-taken (refused h f l t u e d) k = joins-taken h k
+joins-taken (drafts h f l t u accepted) k = joins-taken h k
+joins-taken (refused h f l t u e ground) k = joins-taken h k
 joins-taken (posts h p) k = joins-taken h k
 joins-taken (withdraws h w) k = joins-taken h k
 
@@ -80,8 +80,8 @@ abbrev pub leaves-taken : {terms : Terms} {last : ℕ} {s : Standing} → Run te
 leaves-taken (opens o) k = 0
 leaves-taken (joins h number r j) k = leaves-taken h k
 leaves-taken (leaves h number r l) k = leaves-taken h k + taken number r k
-leaves-taken (drafts h f l t u d) k = leaves-taken h k
-leaves-taken (refused h f l t u e d) k = leaves-taken h k
+leaves-taken (drafts h f l t u accepted) k = leaves-taken h k
+leaves-taken (refused h f l t u e ground) k = leaves-taken h k
 leaves-taken (posts h p) k = leaves-taken h k
 leaves-taken (withdraws h w) k = leaves-taken h k
 
@@ -112,8 +112,8 @@ abbrev pub posted-bills : {terms : Terms} {last : ℕ} {s : Standing} → Run te
 posted-bills (opens o) = pos 0
 posted-bills (joins h number r j) = posted-bills h
 posted-bills (leaves h number r l) = posted-bills h
-posted-bills (drafts h f l t u d) = posted-bills h
-posted-bills (refused h f l t u e d) = posted-bills h
+posted-bills (drafts h f l t u accepted) = posted-bills h
+posted-bills (refused h f l t u e ground) = posted-bills h
 posted-bills (posts {d = d} h p) = posted-bills h +ℤ bills-of d
 posted-bills (withdraws h w) = posted-bills h
 
@@ -122,8 +122,8 @@ abbrev pub posted-costs : {terms : Terms} {last : ℕ} {s : Standing} → Run te
 posted-costs (opens o) = pos 0
 posted-costs (joins h number r j) = posted-costs h
 posted-costs (leaves h number r l) = posted-costs h
-posted-costs (drafts h f l t u d) = posted-costs h
-posted-costs (refused h f l t u e d) = posted-costs h
+posted-costs (drafts h f l t u accepted) = posted-costs h
+posted-costs (refused h f l t u e ground) = posted-costs h
 posted-costs (posts {d = d} {f = f} h p) = posted-costs h +ℤ cost-by f (homes-in d)
 posted-costs (withdraws h w) = posted-costs h
 
@@ -132,7 +132,7 @@ abbrev pub last-billed : {terms : Terms} {last : ℕ} {s : Standing} → Run ter
 last-billed (opens o) = None
 last-billed (joins h number r j) = last-billed h
 last-billed (leaves h number r l) = last-billed h
-last-billed (drafts h f l t u d) = last-billed h
-last-billed (refused h f l t u e d) = last-billed h
+last-billed (drafts h f l t u accepted) = last-billed h
+last-billed (refused h f l t u e ground) = last-billed h
 last-billed (posts {d = d} h p) = Some (total (homes-in d))
 last-billed (withdraws h w) = last-billed h

@@ -11,6 +11,6 @@ pub struct Account {
     homes: Composition,
     // what earlier bills brought in beyond the costs, in hundredths of a penny
     purse: u32,
-    // the number of the last bill that was posted
+    // the number of the last bill; the next draft that is posted has the number after it
     last: u16,
 }

@@ -9,7 +9,7 @@ use Rattle.std.proofs.shelf.Signed.{ints, by-ltZ}
 
 -- ---- the ring
 
-swap-inner : (x y b c : ℤ) → (x +ℤ y) +ℤ (b +ℤ c) ≡ (x +ℤ b) +ℤ (y +ℤ c)
+pub swap-inner : (x y b c : ℤ) → (x +ℤ y) +ℤ (b +ℤ c) ≡ (x +ℤ b) +ℤ (y +ℤ c)
 swap-inner x y b c = omega (arith, ints)
 
 swap-inner-minus : (x y b c : ℤ) → (x +ℤ y) -ℤ (b +ℤ c) ≡ (x -ℤ b) +ℤ (y -ℤ c)

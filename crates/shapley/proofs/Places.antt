@@ -5,7 +5,7 @@ use Prim.Native.Nat.{ℕ, zero, suc, _+_, _*_, _/_, _%_, _^_, _≤_, _<_}
 use native.Mathlib.Nat.{add-zero, add-suc, zero-mul, suc-mul, mul-comm, mul-le-mul, two-pow-succ}
 use native.Mathlib.Numerals.{add-one}
 use native.Mathlib.Omega.{arith}
-use lib.IntN.{ℤ, pos, _+ℤ_}
+use lib.IntN.{ℤ, pos, _+ℤ_, +ℤ-assoc}
 use lib.Pow.{pow-add}
 use Rattle.std.proofs.shelf.Bits.{div-mul-add, mod-mul-add}
 use Rattle.std.proofs.shelf.Signed.{ints}
@@ -28,9 +28,6 @@ place-sum-step n g s t r e f h = h ∙ ap₂ (λ (x y : ℤ). x +ℤ y) e f ∙ 
 zero-+ℤ : (a : ℤ) → pos 0 +ℤ a ≡ a
 zero-+ℤ a = omega (arith, ints)
 
-regroup : (a b c : ℤ) → (a +ℤ b) +ℤ c ≡ a +ℤ (b +ℤ c)
-regroup a b c = omega (arith, ints)
-
 same-sum : (n : ℕ) (f g : ℕ → ℤ) → ((k : ℕ) → k < n → f k ≡ g k) → place-sum n f ≡ place-sum n g
 same-sum zero f g e = refl
 same-sum (suc n) f g e =
@@ -44,7 +41,7 @@ in-two a zero g = ap (λ (n : ℕ). place-sum n g) (add-zero a) ∙ last (place-
     last x = omega (arith, ints)
 in-two a (suc b) g =
     ap (λ (n : ℕ). place-sum n g) (add-suc a b) ∙ ap (λ (x : ℤ). x +ℤ g (a + b)) (in-two a b g)
-    ∙ regroup (place-sum a g) (place-sum b (λ k. g (a + k))) (g (a + b))
+    ∙ +ℤ-assoc (place-sum a g) (place-sum b (λ k. g (a + k))) (g (a + b))
 
 -- rows of w places each: a place's row is its quotient, and its column what is left
 rows : (w s : ℕ) (h : ℕ → ℕ → ℤ) → place-sum (s * w) (λ p. h (p % w) (p / w)) ≡ place-sum s (λ q. place-sum w (λ n. h n q))

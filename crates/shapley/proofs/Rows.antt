@@ -75,7 +75,7 @@ entry-inside n j p q = omega (arith, mul-le n (n - 1) 24 23 p (omega arith))
 
 -- no weight is 0: times something it gives the least common multiple
 pub weight-pos : (n j : ℕ) → n ≤ 24 → j < n → 0 < weight n j
-weight-pos n j p q = factor-pos (weight n j) (n * choose (n - 1) j) (lcm-to n) (weights-are-exact n j (omega arith) p q) (lcm-to-pos n)
+weight-pos n j p q = factor-pos (weight n j) (n * choose (n - 1) j) (lcm-to n) (weights-are-exact n j (omega arith, p, q)) (lcm-to-pos n)
   where
     factor-pos : (w d l : ℕ) → w * d ≡ l → 0 < l → 0 < w
     factor-pos zero d l e h = absurd (omega (arith, zero-mul d))

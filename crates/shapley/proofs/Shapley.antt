@@ -9,7 +9,7 @@ use lib.IntN.{ℤ, pos, negℤ, _+ℤ_, _-ℤ_, _*ℤ_, *ℤ-comm}
 use lib.ListN.{length, getD}
 use lib.Signed.{_≤ℤ_}
 use Rattle.std.proofs.shelf.Signed.{ints}
-use Rattle.composition.proofs.Changes.{lowered-raised, raised-lowered, raised-counted}
+use Rattle.composition.proofs.Changes.{length-lowered, lowered-raised, raised-lowered, raised-counted}
 use Rattle.composition.proofs.Four.{split4}
 use Rattle.composition.proofs.Places.{inside-total, inside-lowered, raised-inside}
 use Rattle.composition.specs.Counts.{total, Inside, raised, lowered}
@@ -227,11 +227,6 @@ pub homes-of : (counts : List ℕ) → length counts ≡ 4 → (hs : List Demand
 homes-of counts e =
     let (hs, h) = repeated (getD counts 0 0) (getD counts 1 0) (getD counts 2 0) (getD counts 3 0) in
     (hs, h ∙ sym (split4 0 counts e))
-
-length-lowered : (i : ℕ) (n : List ℕ) → length (lowered i n) ≡ length n
-length-lowered i [] = refl
-length-lowered zero (n ∷ ns) = refl
-length-lowered (suc i) (n ∷ ns) = ap suc (length-lowered i ns)
 
 -- and where a type is counted, of homes that begin with one of it
 pub homes-list : (counts : List ℕ) → length counts ≡ 4 → (k : DemandType) → 0 < getD counts (position k) 0 → (others : List DemandType) × (counts-of (k ∷ others) ≡ counts)

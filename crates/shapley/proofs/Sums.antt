@@ -8,9 +8,8 @@ use native.Mathlib.Nat.{suc-mul, one-mul}
 use native.Mathlib.Omega.{arith}
 use lib.IntN.{ℤ, pos, _+ℤ_, _*ℤ_}
 use lib.Signed.{_≤ℤ_}
-use Rattle.std.proofs.shelf.Signed.{ints}
 use Rattle.composition.specs.Counts.{Inside}
-use Rattle.rounding.proofs.Integers.{*ℤ-+ℤ, add-≤}
+use Rattle.rounding.proofs.Integers.{*ℤ-+ℤ, add-≤, swap-inner}
 use Rattle.shapley.specs.Shares.{range-sum, box-sum}
 use Rattle.shapley.specs.Subsets.{subset-sum}
 
@@ -77,9 +76,6 @@ pub subset-sum-mono : {P : Type 0} (ps : List P) (f g : List P → ℤ) → ((s 
 subset-sum-mono = subset-sum-rel _≤ℤ_ add-≤
 
 -- ---- a sum of sums
-
-swap-inner : (x y b c : ℤ) → (x +ℤ y) +ℤ (b +ℤ c) ≡ (x +ℤ b) +ℤ (y +ℤ c)
-swap-inner x y b c = omega (arith, ints)
 
 pub range-sum-adds : (n : ℕ) (f g : ℕ → ℤ) → range-sum n (λ j. f j +ℤ g j) ≡ range-sum n f +ℤ range-sum n g
 range-sum-adds zero f g = refl

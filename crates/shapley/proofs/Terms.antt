@@ -26,8 +26,8 @@ use Rattle.shapley.proofs.Shapley.{share-bounded-by-counts}
 use Rattle.shapley.proofs.Weights.{weight-le-lcm}
 use Rattle.shapley.specs.Combinations.{choose, ways}
 use Rattle.shapley.specs.CommonMultiple.{lcm-to}
-use Rattle.shapley.specs.CostTables.{costs-by, term}
-use Rattle.shapley.specs.Shares.{box-sum, marginal, share}
+use Rattle.shapley.specs.CostTables.{costs-by}
+use Rattle.shapley.specs.Shares.{box-sum, marginal, share, term}
 use Rattle.shapley.specs.Weights.{weight}
 
 -- ---- picking a group

@@ -22,9 +22,9 @@ all-exact = tt
 
 pub weights-are-exact : WeightsAreExact
 unfolding exact
-weights-are-exact n j p q r =
+weights-are-exact n j has =
     eqb→eq (weight n j * (n * choose (n - 1) j)) (lcm-to n)
-    (at n (exact n) (at 25 (λ m. each-below m (exact m)) all-exact n (omega arith)) j r)
+    (at n (exact n) (at 25 (λ m. each-below m (exact m)) all-exact n (omega (arith, has .1))) j (has .2))
 
 pub weight-le-lcm : (n j : ℕ) → weight n j ≤ lcm-to n
 weight-le-lcm n j = div-le-self (lcm-to n) (n * choose (n - 1) j)
@@ -34,7 +34,7 @@ pub weight-factorials : (k r : ℕ) → suc (k + r) ≤ 24 → factorial (suc (k
 weight-factorials k r h =
     ap (λ (x : ℕ). suc (k + r) * x * weight (suc (k + r)) k) (sym (choose-factorials k r))
     ∙ regroup (suc (k + r)) (choose (k + r) k) (factorial k * factorial r) (weight (suc (k + r)) k)
-    ∙ ap (λ (x : ℕ). x * (factorial k * factorial r)) (ap (λ (x : ℕ). weight (suc (k + r)) k * (suc (k + r) * choose x k)) one-less ∙ weights-are-exact (suc (k + r)) k (omega arith) h (omega arith))
+    ∙ ap (λ (x : ℕ). x * (factorial k * factorial r)) (ap (λ (x : ℕ). weight (suc (k + r)) k * (suc (k + r) * choose x k)) one-less ∙ weights-are-exact (suc (k + r)) k (omega arith, h, omega arith))
   where
     regroup : (n c f w : ℕ) → n * (c * f) * w ≡ w * (n * c) * f
     regroup n c f w = simp (mul-assoc, mul-comm, mul-left-comm)
@@ -45,13 +45,13 @@ weight-factorials k r h =
 -- the least common multiple is n times the weight of the empty group
 pub lcm-from-row : (n : ℕ) → 1 ≤ n → n ≤ 24 → lcm-to n ≡ n * weight n 0
 lcm-from-row n p q =
-    sym (weights-are-exact n 0 p q p) ∙ ap (λ (x : ℕ). weight n 0 * x) (mul-one n) ∙ mul-comm (weight n 0) n
+    sym (weights-are-exact n 0 (p, q, p)) ∙ ap (λ (x : ℕ). weight n 0 * x) (mul-one n) ∙ mul-comm (weight n 0) n
 
 -- along a row, the weights of all groups of j together are the same for every j
 pub row-starts : (n j : ℕ) → 1 ≤ n → n ≤ 24 → j < n → weight n 0 ≡ weight n j * choose (n - 1) j
 row-starts n j p q r =
     eq-of-mul-eq-mul-right n p (weight n 0) (weight n j * choose (n - 1) j)
-    (mul-comm (weight n 0) n ∙ sym (lcm-from-row n p q) ∙ sym (weights-are-exact n j p q r) ∙ regroup (weight n j) n (choose (n - 1) j))
+    (mul-comm (weight n 0) n ∙ sym (lcm-from-row n p q) ∙ sym (weights-are-exact n j (p, q, r)) ∙ regroup (weight n j) n (choose (n - 1) j))
   where
     regroup : (w n c : ℕ) → w * (n * c) ≡ w * c * n
     regroup w n c = simp (mul-assoc, mul-comm)

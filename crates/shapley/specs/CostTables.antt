@@ -1,18 +1,16 @@
 -- A table of costs, and the shares that it gives.
 use mathlib.Core.Path.{_≡_}
 use mathlib.Core.List.{List}
-use Prim.Native.Nat.{ℕ, _*_, _<_}
+use Prim.Native.Nat.{ℕ, _<_}
 use denote.Ref.{now}
-use lib.IntN.{ℤ, pos, _*ℤ_}
+use lib.IntN.{ℤ, pos}
 use lib.ListN.{getD}
 use Rattle.std.specs.declared.option.Option.{Option}
 use Rattle.std.specs.declared.option.Option.the-variants.{Some, None}
-use Rattle.composition.specs.Counts.{total, count, place, lowered}
+use Rattle.composition.specs.Counts.{count, place}
 use Rattle.composition.specs.Types.{position}
 use Rattle.composition.specs.declared.demand_type.DemandType.{DemandType}
-use Rattle.shapley.specs.Combinations.{ways}
-use Rattle.shapley.specs.Shares.{marginal, share}
-use Rattle.shapley.specs.Weights.{weight}
+use Rattle.shapley.specs.Shares.{share}
 use Rattle.shapley.specs.declared.cost_table.CostTable.{CostTable}
 
 -- the cost of a group in a list of costs by place
@@ -22,10 +20,6 @@ costs-by counts costs n = getD costs (place counts n) (pos 0)
 -- the cost of a group in a table
 abbrev pub cost-in : CostTable → List ℕ → ℤ
 cost-in t = costs-by (t .homes .counts) (now (t .costs))
-
--- what one group of the others brings to a share; a share is the sum of these over all groups
-abbrev pub term : List ℕ → ℕ → (List ℕ → ℤ) → List ℕ → ℤ
-term counts i c n = pos (weight (total counts) (total n) * ways (lowered i counts) n) *ℤ marginal c i n
 
 -- what a table answers as the share of a home of a type: the share by its costs, or nothing if there is no such home
 abbrev pub SharedBy : CostTable → DemandType → Option ℤ → Type 0

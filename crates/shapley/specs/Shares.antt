@@ -20,7 +20,11 @@ box-sum (m ∷ ms) f = box-sum ms (λ ns. range-sum m (λ n. f (n ∷ ns)))
 abbrev pub marginal : (List ℕ → ℤ) → ℕ → List ℕ → ℤ
 marginal c i n = c (raised i n) -ℤ c n
 
--- the share of a home of the type at position i among homes with these counts, times the least common multiple
+-- what one group n of the others brings to the share: what the home adds to it, weighted, as often as it can be picked
+abbrev pub term : List ℕ → ℕ → (List ℕ → ℤ) → List ℕ → ℤ
+term counts i c n = pos (weight (total counts) (total n) * ways (lowered i counts) n) *ℤ marginal c i n
+
+-- the share of a home of the type at position i among homes with these counts, times the least common multiple:
+-- over every group of the others
 abbrev pub share : List ℕ → ℕ → (List ℕ → ℤ) → ℤ
-share counts i c =
-    box-sum (lowered i counts) (λ n. pos (weight (total counts) (total n) * ways (lowered i counts) n) *ℤ marginal c i n)
+share counts i c = box-sum (lowered i counts) (term counts i c)

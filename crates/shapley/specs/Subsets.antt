@@ -3,7 +3,7 @@ use mathlib.Core.List.{List, [], _∷_}
 use Prim.Native.Nat.{ℕ, _-_, _*_}
 use lib.IntN.{ℤ, pos, _+ℤ_, _-ℤ_, _*ℤ_}
 use lib.ListN.{length}
-use Rattle.composition.specs.Counts.{raised}
+use Rattle.composition.specs.Counts.{nobody, raised}
 use Rattle.composition.specs.Types.{position}
 use Rattle.composition.specs.declared.demand_type.DemandType.{DemandType}
 use Rattle.shapley.specs.Combinations.{factorial}
@@ -22,5 +22,5 @@ shapley-sum value player others =
 
 -- how many homes of each type a list of homes has, one entry a home, its type
 abbrev pub counts-of : List DemandType → List ℕ
-counts-of [] = 0 ∷ 0 ∷ 0 ∷ 0 ∷ []
+counts-of [] = nobody
 counts-of (k ∷ ks) = raised (position k) (counts-of ks)

@@ -1,5 +1,5 @@
 // Homes that join and leave.
-ghost use Rattle.account.specs.Calls.{Joined, Left};
+ghost use Rattle.account.specs.Calls.{Joined, Departed};
 use super::Account;
 use crate::refusals::JoinRefusal;
 use crate::refusals::LeaveRefusal;
@@ -22,7 +22,7 @@ impl Account {
 
     // One home fewer of the type with this number.
     pub fn leave(&mut self, number: u8) -> Result<(), LeaveRefusal>
-        ensures { λ r. ⌜ Left (now (self .entry)) number r (now (self .exit)) ⌝ }
+        ensures { λ r. ⌜ Departed (now (self .entry)) number r (now (self .exit)) ⌝ }
     {
         let Ok(of) = DemandType::numbered(number) else {
             return Err(LeaveRefusal::NoSuchType);

@@ -4,7 +4,7 @@ use super::Draft;
 use crate::account::Account;
 
 impl Draft {
-    // The bills are sent: the account has the draft's purse, and one bill number more is used.
+    // The bills count: the account has the draft's purse, and one bill number more is used.
     pub fn post(self) -> Account
         ensures { λ r. ⌜ Posted self r ⌝ }
     {

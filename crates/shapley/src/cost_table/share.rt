@@ -8,8 +8,8 @@ ghost use Rattle.composition.specs.Counts.{total, count, lowered, raised, Insid
 ghost use Rattle.composition.specs.Types.{position};
 ghost use Rattle.cost_rules.specs.Limits.{Within};
 ghost use Rattle.shapley.specs.Combinations.{ways};
-ghost use Rattle.shapley.specs.CostTables.{SharedBy, cost-in, term};
-ghost use Rattle.shapley.specs.Shares.{marginal, share};
+ghost use Rattle.shapley.specs.CostTables.{SharedBy, cost-in};
+ghost use Rattle.shapley.specs.Shares.{marginal, share, term};
 ghost use Rattle.shapley.specs.Weights.{weight};
 use super::CostTable;
 use crate::ways::ways;

@@ -1,4 +1,8 @@
+use mathlib.Core.Path.{ap, _∙_}
+use Prim.Native.Nat.{ℕ, _-_, _*_}
 use native.Mathlib.Omega.{arith}
+use Rattle.shapley.specs.Combinations.{choose}
+use Rattle.shapley.specs.Weights.{HasWeight}
 use Rattle.shapley.proofs.Weights.{weights-are-exact}
 use Rattle.shapley.proofs.weight_table.weight.Needs as need
 
@@ -6,4 +10,11 @@ pub returns-then-homes-gt24 : need.returns-then-homes-gt24
 returns-then-homes-gt24 c = record { entry = λ h. omega arith; rule = weights-are-exact }
 
 pub returns : need.returns
-returns c = record { entry = ((omega arith, c .if-homes-gt24 .left, c .if-others-homes .left), c .entry .ensures); rule = weights-are-exact }
+returns c =
+    let n = c .args .homes in
+    let j = c .args .others in
+    let has : HasWeight n j = (omega arith, c .if-homes-gt24 .left, c .if-others-homes .left) in
+    record {
+      entry = (has, c .entry .ensures, ap (λ (w : ℕ). w * (n * choose (n - 1) j)) (c .entry .ensures) ∙ weights-are-exact n j has);
+      rule = weights-are-exact;
+    }

@@ -18,16 +18,16 @@ last : (counts : List ℕ) (p : ℕ) → p ≡ place counts counts → p < size 
 last counts p e = omega (arith, place-below counts counts (inside-self counts), e)
 
 pub index-costs-place : need.index-costs-place
-index-costs-place c = omega (arith, last (c .args .costs .now .homes .counts) (c .place .result) (c .place .ensures), c .args .costs .now .long)
+index-costs-place c = omega (arith, last (c .args .costs .now .homes .counts) (c .place .result) (c .place .ensures .value), c .args .costs .now .long)
 
 pub offset-costs-place : need.offset-costs-place
 offset-costs-place c =
-    let below : c .place .result < length (c .args .costs .now .costs .now) = omega (arith, last (c .args .costs .now .homes .counts) (c .place .result) (c .place .ensures), c .args .costs .now .long) in
+    let below : c .place .result < length (c .args .costs .now .costs .now) = omega (arith, last (c .args .costs .now .homes .counts) (c .place .result) (c .place .ensures .value), c .args .costs .now .long) in
     search needs
 
 pub cast-result : need.cast-result
 cast-result c =
-    let within : Within (getD (c .args .costs .now .costs .now) (c .place .result) (pos 0)) = c .args .costs .now .limits (c .place .result) (last (c .args .costs .now .homes .counts) (c .place .result) (c .place .ensures)) in
+    let within : Within (getD (c .args .costs .now .costs .now) (c .place .result) (pos 0)) = c .args .costs .now .limits (c .place .result) (last (c .args .costs .now .homes .counts) (c .place .result) (c .place .ensures .value)) in
     omega (arith, ints, within .0, within .1)
 
 -- a cost within the limits is the same in 32 bits as in 64
@@ -37,5 +37,5 @@ narrowed z within = omega (arith, ints, within .0, within .1)
 pub returns : need.returns
 returns c =
     let table = c .args .costs .now in
-    narrowed _ (table .limits (c .place .result) (last (table .homes .counts) (c .place .result) (c .place .ensures)))
-    ∙ ap (λ (p : ℕ). getD (table .costs .now) p (pos 0)) (c .place .ensures)
+    narrowed _ (table .limits (c .place .result) (last (table .homes .counts) (c .place .result) (c .place .ensures .value)))
+    ∙ ap (λ (p : ℕ). getD (table .costs .now) p (pos 0)) (c .place .ensures .value)

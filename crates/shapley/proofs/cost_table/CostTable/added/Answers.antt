@@ -17,7 +17,7 @@ inside : (c : need.After-step) → c .place-place .result + c .step .result < si
 inside c =
     let homes = c .args .self .now .homes in
     stepped-below (position (c .args .of)) (c .place-place .result) (c .step .result) (homes .counts) (c .args .group .now .counts)
-    (c .place-place .ensures) (c .step .ensures) (omega (arith, position-below (c .args .of))) (c .pre)
+    (c .place-place .ensures .value) (c .step .ensures .value) (omega (arith, position-below (c .args .of))) (c .pre)
 
 pub add-further : need.add-further
 add-further c =
@@ -30,7 +30,7 @@ pub cost-requires-2 : need.cost-requires-2
 cost-requires-2 c κs =
     let homes = c .args .self .now .homes in
     unstepped-below (position (c .args .of)) (c .place-place .result) (homes .counts) (c .args .group .now .counts)
-    (c .place-place .ensures) (omega (arith, position-below (c .args .of))) (c .pre)
+    (c .place-place .ensures .value) (omega (arith, position-below (c .args .of))) (c .pre)
 
 pub sub-result : need.sub-result
 sub-result c =
@@ -48,7 +48,7 @@ returns c =
     record {
       value = plain
           ∙ read-marginal (position (c .args .of)) (c .place-place .result) (c .step .result) (homes .counts) (c .args .group .now .counts) (c .args .self .now .costs .now) _ _
-          (c .place-place .ensures) (c .step .ensures) (omega (arith, position-below (c .args .of))) (c .pre) (c .cost .ensures .value) (c .cost-2 .ensures .value);
+          (c .place-place .ensures .value) (c .step .ensures .value) (omega (arith, position-below (c .args .of))) (c .pre) (c .cost .ensures .value) (c .cost-2 .ensures .value);
       low = omega (arith, ints);
       high = omega (arith, ints);
     }

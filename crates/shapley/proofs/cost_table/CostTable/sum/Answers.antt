@@ -7,8 +7,8 @@ use mir.Val.{SFits}
 use Rattle.std.proofs.shelf.Signed.{ints, toZ-ofZ}
 use Rattle.composition.specs.Counts.{at-place}
 use Rattle.composition.specs.Types.{position}
-use Rattle.shapley.specs.CostTables.{cost-in, term as term-of}
-use Rattle.shapley.specs.Shares.{share}
+use Rattle.shapley.specs.CostTables.{cost-in}
+use Rattle.shapley.specs.Shares.{share, term as term-of}
 use Rattle.shapley.proofs.Places.{place-sum-step}
 use Rattle.shapley.proofs.Terms.{all-summed, share-fits, size-small, between-fits}
 use Rattle.shapley.proofs.cost_table.CostTable.sum.Needs as need

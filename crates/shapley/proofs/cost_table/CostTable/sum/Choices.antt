@@ -4,7 +4,8 @@ use lib.IntN.{pos, negℤ}
 use lib.Signed.{_≤ℤ_}
 use Rattle.composition.specs.Counts.{at-place}
 use Rattle.composition.specs.Types.{position}
-use Rattle.shapley.specs.CostTables.{term, cost-in}
+use Rattle.shapley.specs.CostTables.{cost-in}
+use Rattle.shapley.specs.Shares.{term}
 use Rattle.shapley.proofs.Places.{place-sum}
 use Rattle.shapley.proofs.cost_table.CostTable.sum.Given as given
 
