@@ -166,7 +166,7 @@ fn show_draft(rt: &LibcRuntime, draft: &Draft) -> io::Result<()> {
     )?;
     println!(
         rt,
-        "  Each home gets {rebate}p back, and {purse} will be in the purse."
+        "  Each home gets {rebate}p back, and the purse would then hold {purse}."
     )?;
     for number in [1u8, 2, 3] {
         show_line(rt, draft, number)?;
