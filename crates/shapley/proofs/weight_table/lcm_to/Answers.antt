@@ -1,4 +1,4 @@
-use mathlib.Core.Path.{_≡_, subst, sym, ap, _∙_}
+use mathlib.Core.Path.{_≡_, subst, sym, ap}
 use Prim.Native.Nat.{ℕ, _*_, _≤_}
 use native.Mathlib.Omega.{arith}
 use Rattle.composition.specs.Counts.{total}
@@ -22,7 +22,7 @@ product : (c : need.After-entry) → c .homes-homes .result * c .entry .result �
 product c =
     let n = c .homes-homes .result in
     let few : n ≤ 24 = omega arith in
-    ap (λ (x : ℕ). n * x) (c .entry .ensures) ∙ sym (lcm-from-row n (omega arith) few) ∙ ap lcm-to (c .homes-homes .ensures)
+    rw (c .entry .ensures) (omega (arith, lcm-from-row n (omega arith) few, ap lcm-to (c .homes-homes .ensures)))
 
 pub mul-result : need.mul-result
 mul-result c =

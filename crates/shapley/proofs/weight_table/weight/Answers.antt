@@ -1,7 +1,4 @@
-use mathlib.Core.Path.{ap, _∙_}
-use Prim.Native.Nat.{ℕ, _-_, _*_}
 use native.Mathlib.Omega.{arith}
-use Rattle.shapley.specs.Combinations.{choose}
 use Rattle.shapley.specs.Weights.{HasWeight}
 use Rattle.shapley.proofs.Weights.{weights-are-exact}
 use Rattle.shapley.proofs.weight_table.weight.Needs as need
@@ -15,6 +12,6 @@ returns c =
     let j = c .args .others in
     let has : HasWeight n j = (omega arith, c .if-homes-gt24 .left, c .if-others-homes .left) in
     record {
-      entry = (has, c .entry .ensures, ap (λ (w : ℕ). w * (n * choose (n - 1) j)) (c .entry .ensures) ∙ weights-are-exact n j has);
+      entry = (has, omega (arith, c .entry .ensures), rw (c .entry .ensures) (omega (arith, weights-are-exact n j has)));
       rule = weights-are-exact;
     }

@@ -47,8 +47,8 @@ returns c =
     omega (arith, ints) in
     record {
       value = plain
-          ∙ read-marginal (position (c .args .of)) (c .place-place .result) (c .step .result) (homes .counts) (c .args .group .now .counts) (c .args .self .now .costs .now) _ _
-          (c .place-place .ensures .value) (c .step .ensures .value) (omega (arith, position-below (c .args .of))) (c .pre) (c .cost .ensures .value) (c .cost-2 .ensures .value);
+          ∙ read-marginal (position (c .args .of)) (c .place-place .result) (c .step .result) (homes .counts) (c .args .group .now .counts) (c .args .self .now .costs .now) (c .cost .result) (c .cost-2 .result)
+          (c .place-place .ensures .value) (c .step .ensures .value) (omega (arith, position-below (c .args .of))) (c .pre) (omega (arith, ints, c .cost .ensures .value)) (omega (arith, ints, c .cost-2 .ensures .value));
       low = omega (arith, ints);
       high = omega (arith, ints);
     }

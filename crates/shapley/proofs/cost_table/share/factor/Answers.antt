@@ -1,5 +1,5 @@
-use mathlib.Core.Path.{_≡_, ap₂, _∙_}
-use Prim.Native.Nat.{ℕ, _*_, _^_, _≤_}
+use mathlib.Core.Path.{_≡_}
+use Prim.Native.Nat.{_*_, _^_, _≤_}
 use native.Mathlib.Omega.{arith}
 use Rattle.composition.proofs.Places.{inside-total}
 use Rattle.composition.specs.Counts.{total}
@@ -20,7 +20,7 @@ value :
     (c : need.After-ways)
     → c .entry .result * c .ways .result
     ≡ weight (total (c .args .homes .now .counts)) (total (c .args .group .now .counts)) * ways (c .args .others .now .counts) (c .args .group .now .counts)
-value c = ap₂ (λ (x y : ℕ). x * y) (c .entry .ensures ∙ ap₂ weight (c .homes .ensures) (c .homes-2 .ensures)) (c .ways .ensures)
+value c = rw (c .entry .ensures, c .ways .ensures, c .homes .ensures, c .homes-2 .ensures) (omega arith)
 
 small : (c : need.After-ways) → c .entry .result * c .ways .result ≤ 2 ^ 56
 small c =
