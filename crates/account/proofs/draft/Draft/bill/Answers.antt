@@ -45,7 +45,7 @@ returns c =
     let three : SFits w32 (c .charge-for-three .result .pence) = search needs in
     let four : SFits w32 (c .charge-for-four .result .pence) = search needs in
     billed-at (c .args .account) table _ counts s u same refl
-    (c .lcm-to-lcm .ensures .value)
+    (omega (arith, c .lcm-to-lcm .ensures .value))
     (toZ-ofZ {w = w64} (record { sfits = c .from .ok }) ∙ c .from .ensures ∙ cost)
     (λ k. subst (λ (p : ℕ). ChargedAs (count (position k) counts) (share counts (position k) (costs-by counts table)) p (s k) (u k)) penny (charged k))
     (settled-read counts _ _ _ _ _ _ _ _ _ (c .settle-settled .ensures .settled) (four-same _ _ _ _ _ _ _ _ (toZ-ofZ one) (toZ-ofZ two) (toZ-ofZ three) (toZ-ofZ four)) cost (c .purse-purse .ensures) (sym (toZ-ofZ fits)))
