@@ -10,6 +10,9 @@ use crate::refusals::DraftRefusal;
 use composition::Composition;
 use cost_rules::CostRule;
 
+// The highest number that a bill can have.
+const HIGHEST: u16 = 65_535;
+
 impl Account {
     // Tests whether a draft may be made, and fills the table for it.
     pub(crate) fn prepare<R: CostRule>(
@@ -25,7 +28,7 @@ impl Account {
         if table.len() < self.homes.size() {
             return Err(DraftRefusal::TableTooShort);
         }
-        if self.last == 65_535 {
+        if self.last == HIGHEST {
             return Err(DraftRefusal::NumbersUsedUp);
         }
         fill(&self.homes, rule, table)

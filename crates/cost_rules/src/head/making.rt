@@ -4,6 +4,9 @@ use super::HeadRule;
 use crate::refusals::FeeOutside;
 use composition::DemandType;
 
+// The most that a fee may be, on either side.
+const LIMIT: i32 = 1_000_000;
+
 impl HeadRule {
     // The rule with these fees, or a refusal that names the first type whose fee lies outside the limits.
     pub fn new(fees: [i32; 4]) -> Result<HeadRule, FeeOutside>
@@ -22,7 +25,7 @@ impl HeadRule {
 fn accept(fee: i32, of: DemandType) -> Result<(), FeeOutside>
     ensures { λ r. ⌜ Accepts fee of r ⌝ }
 {
-    if fee < -1_000_000 || fee > 1_000_000 {
+    if fee < -LIMIT || fee > LIMIT {
         return Err(FeeOutside { of });
     }
     Ok(())

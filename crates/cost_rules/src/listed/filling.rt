@@ -1,6 +1,7 @@
 // Filling a listed rule.
 ghost use Rattle.cost_rules.specs.Filled.{Filled, BuiltIn, FirstOutside};
 use super::ListedRule;
+use crate::pricing::LIMIT;
 use crate::refusals::ListedRefusal;
 use composition::Composition;
 
@@ -43,7 +44,7 @@ fn first_outside(table: &[i32]) -> Option<usize>
     ensures { λ r. ⌜ FirstOutside (now (table .entry)) r ⌝ }
 {
     for (place, cost) in table.iter().enumerate() {
-        if *cost < -500_000_000 || *cost > 500_000_000 {
+        if *cost < -LIMIT || *cost > LIMIT {
             return Some(place);
         }
     }
