@@ -27,33 +27,36 @@ fn three_homes_are_billed() -> Result<(), Fail> {
     check_eq(table, [0, 600, 1000, 900, 1100, 1600, 77])
 }
 
-// One billing of those homes, first drafted and withdrawn, which leaves the account as it was, and then posted.
-fn billed(account: Account, rebate: i64, purse: u32, lines: [Line; 4]) -> Result<Account, Fail> {
-    let mut rule = ListedRule::built_in();
-    fill(&mut rule, [2, 1, 0, 0], &COSTS)?;
+// A draft of those homes' bills, withdrawn, which leaves the account as it was.
+fn withdrawn(account: Account) -> Result<Account, Fail> {
     let before = standing_of(&account);
-    let account = draft(account, &rule, &mut [0; 6])?.withdraw();
+    let draft = draft_by_list(account, [2, 1, 0, 0], &COSTS, &mut [0; 6])?;
+    let account = draft.withdraw();
     check_eq(standing_of(&account), before)?;
-    let draft = draft(account, &rule, &mut [0; 6])?;
-    check_eq(bills_of(&draft)?, ((6, 1600, rebate, purse), lines))?;
-    Ok(draft.post())
+    Ok(account)
+}
+
+// A draft of those homes' bills, posted: the account then has the draft's purse, and this last bill number.
+fn posted(account: Account, expected: Bills, last: u16) -> Result<Account, Fail> {
+    let draft = draft_by_list(account, [2, 1, 0, 0], &COSTS, &mut [0; 6])?;
+    check_eq(bills_of(&draft)?, expected)?;
+    let account = draft.post();
+    let ((_, _, _, purse), _) = expected;
+    check_eq(standing_of(&account), ([2, 1, 0, 0], purse, last))?;
+    Ok(account)
 }
 
 // Each billing brings in 100 more than the cost. At the third there are 300, a penny for each of three homes: every bill is
 // a penny lower, and the purse is empty again.
 #[test]
 fn the_purse_fills_and_is_given_back() -> Result<(), Fail> {
-    let mut account = account_with(0, [2, 1, 0, 0])?;
-    for (last, rebate, purse, one, two) in [
-        (1, 0, 100, 5, 7),
-        (2, 0, 200, 5, 7),
-        (3, 1, 0, 4, 6),
-        (4, 0, 100, 5, 7),
-    ] {
-        let lines = [Some((2800, one)), Some((4000, two)), None, None];
-        account = billed(account, rebate, purse, lines)?;
-        check_eq(standing_of(&account), ([2, 1, 0, 0], purse, last))?;
-    }
+    let lines = [Some((2800, 5)), Some((4000, 7)), None, None];
+    let lower = [Some((2800, 4)), Some((4000, 6)), None, None];
+    let account = account_with(0, [2, 1, 0, 0])?;
+    let account = posted(account, ((6, 1600, 0, 100), lines), 1)?;
+    let account = posted(account, ((6, 1600, 0, 200), lines), 2)?;
+    let account = withdrawn(account)?;
+    let _account = posted(account, ((6, 1600, 1, 0), lower), 3)?;
     Ok(())
 }
 

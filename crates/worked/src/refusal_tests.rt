@@ -1,21 +1,22 @@
 // Why a draft is refused, in which order, and that the account comes back as it was.
+use crate::broken::*;
 use crate::told::*;
 use cost_rules::HeadRule;
 use cost_rules::HeadRuleCost;
 use std::test::*;
 
-// A draft of a new account is refused with this number, and leaves the table as it was.
+// A draft of a new account, by a rule with a fault, is refused with this number before the rule is asked: the table stays.
 fn check_refused(last: u16, homes: [u8; 4], table: &mut [i64], number: u8) -> Result<(), Fail> {
-    let rule = head([1, 2, 3, 4])?;
-    let refused = draft(account_with(last, homes)?, &rule, table).err();
+    let refused = draft(account_with(last, homes)?, &broken(99, 0), table).err();
     check_eq(refused, Some(((number, None), (homes, 0, last))))?;
-    for cost in table.iter() {
-        check_eq(*cost, 77)?;
+    for place in 0..table.len() {
+        check_eq(table[place], 77)?;
     }
     Ok(())
 }
 
-// Up to two homes of type 1 and one of type 3 make six groups. Each account has the later grounds too, as far as it can.
+// Up to two homes of type 1 and one of type 3 make six groups. Each account has all later grounds too, but for the
+// one whose last number is 65,534.
 #[test]
 fn grounds_go_in_their_order() -> Result<(), Fail> {
     check_refused(65_535, [0, 0, 0, 0], &mut [], 4)?;

@@ -1,8 +1,7 @@
 // Every home's share once more, from the definition: a plain sum over all subsets of the other homes.
 use crate::told::*;
 use account::Account;
-use cost_rules::ListedRule;
-use cost_rules::ListedRuleCost;
+use account::Draft;
 use std::test::*;
 
 // In how many orders so many homes can arrive.
@@ -27,9 +26,9 @@ fn costs_by_lot(seed: u32) -> [i32; 256] {
 fn cost_of(homes: &[u8], subset: usize, costs: &[i32; 256]) -> (usize, i128) {
     let mut size = 0usize;
     let mut place = 0usize;
-    for (number, bit) in homes.iter().zip(BITS.iter()) {
-        if subset & *bit != 0 {
-            let step = match *number {
+    for at in 0..homes.len() {
+        if subset & BITS[at % 7] != 0 {
+            let step = match homes[at] {
                 1 => 1,
                 2 => 4,
                 3 => 16,
@@ -39,7 +38,7 @@ fn cost_of(homes: &[u8], subset: usize, costs: &[i32; 256]) -> (usize, i128) {
             place = place.wrapping_add(step);
         }
     }
-    (size, costs[place % 256] as i128)
+    (size, i128::from(costs[place % 256]))
 }
 
 // What a home adds to each subset of the others, for each order of all homes in which it arrives right behind that subset.
@@ -57,28 +56,39 @@ fn added_in_all_orders(homes: &[u8], bit: usize, costs: &[i32; 256]) -> i128 {
     sum
 }
 
-// The shares are over the least common multiple, and the sums over the number of all orders.
-fn check_shares(homes: &[u8], seed: u32) -> Result<(), Fail> {
+// The bills of an account with these homes.
+fn draft_for(homes: &[u8], costs: &[i32; 256]) -> Result<Draft, Fail> {
     let mut account = Account::open_after(0);
     for number in homes {
         join(&mut account, *number)?;
     }
-    let costs = costs_by_lot(seed);
-    let mut rule = ListedRule::built_in();
-    fill(&mut rule, [3, 3, 3, 3], &costs)?;
-    let mut table = [0i64; 64];
-    let draft = draft(account, &rule, &mut table)?;
-    let multiple = draft.lcm() as i128;
+    draft_by_list(account, [3, 3, 3, 3], costs, &mut [0; 64])
+}
+
+// Shares are over the least common multiple, and the sums over the number of all orders.
+fn check_share(
+    homes: &[u8],
+    number: u8,
+    bit: usize,
+    draft: &Draft,
+    costs: &[i32; 256],
+) -> Result<(), Fail> {
+    let Some((share, _)) = line(draft, number)? else {
+        return Err(Fail::new("a home has no line"));
+    };
+    let added = added_in_all_orders(homes, bit, costs);
     let orders = ORDERS[homes.len() % 7];
-    for (number, bit) in homes.iter().zip(BITS.iter()) {
-        let Ok(Some((share, _))) = line(&draft, *number) else {
-            return Err(Fail::new("a home has no line"));
-        };
-        let sum = added_in_all_orders(homes, *bit, &costs);
-        check_eq(
-            orders.wrapping_mul(share as i128),
-            multiple.wrapping_mul(sum),
-        ).note(format_args!("seed {seed}, home {bit}"))?;
+    check_eq(
+        orders.wrapping_mul(i128::from(share)),
+        i128::from(draft.lcm()).wrapping_mul(added),
+    )
+}
+
+fn check_shares(homes: &[u8], seed: u32) -> Result<(), Fail> {
+    let costs = costs_by_lot(seed);
+    let draft = draft_for(homes, &costs)?;
+    for at in 0..homes.len() {
+        check_share(homes, homes[at], BITS[at % 7], &draft, &costs)?;
     }
     Ok(())
 }

@@ -28,12 +28,17 @@ pub(crate) fn standing_of(account: &Account) -> Standing {
 // A new account after this last bill number, with so many homes of each type.
 pub(crate) fn account_with(last: u16, homes: [u8; 4]) -> Result<Account, Fail> {
     let mut account = Account::open_after(last);
-    for (number, count) in [1u8, 2, 3, 4].iter().zip(homes.iter()) {
-        for _ in 0..*count {
-            join(&mut account, *number)?;
+    join_all(&mut account, homes)?;
+    Ok(account)
+}
+
+fn join_all(account: &mut Account, homes: [u8; 4]) -> Result<(), u8> {
+    for at in 0..4u8 {
+        for _ in 0..homes[at as usize] {
+            join(account, at + 1)?;
         }
     }
-    Ok(account)
+    Ok(())
 }
 
 pub(crate) fn join(account: &mut Account, number: u8) -> Result<(), u8> {
@@ -88,16 +93,26 @@ pub(crate) fn bills_of(draft: &Draft) -> Result<Bills, u8> {
     Ok((whole, lines))
 }
 
-// The bills of a new account whose homes have these costs, which also fill the table's first entries.
+// A draft by a rule that lists these costs for the groups inside a box, which must be accepted.
+pub(crate) fn draft_by_list(
+    account: Account,
+    largest: [u8; 4],
+    costs: &[i32],
+    table: &mut [i64],
+) -> Result<Draft, Fail> {
+    let mut rule = ListedRule::built_in();
+    fill(&mut rule, largest, costs)?;
+    Ok(draft(account, &rule, table)?)
+}
+
+// The bills of a new account, where the costs are those of all groups of its homes.
 pub(crate) fn check_bills(
     homes: [u8; 4],
     costs: &[i32],
     table: &mut [i64],
     expected: Bills,
 ) -> Result<(), Fail> {
-    let mut rule = ListedRule::built_in();
-    fill(&mut rule, homes, costs)?;
-    let draft = draft(account_with(0, homes)?, &rule, table)?;
+    let draft = draft_by_list(account_with(0, homes)?, homes, costs, table)?;
     check_eq(bills_of(&draft)?, expected)
 }
 
