@@ -1,4 +1,4 @@
--- Filling a listed rule: the refusals with their numbers and their order, and what a rule holds afterwards.
+-- Filling a listed rule: the refusals with their grounds and their order, and what a rule holds afterwards.
 use mathlib.Core.Path.{_≡_}
 use mathlib.Core.List.{List, [], _∷_}
 use Prim.Native.Nat.{ℕ, _≤_, _<_}
