@@ -1,4 +1,6 @@
 // The account of a battery cabinet: who is in it, what they owe, and what the purse keeps.
+#![tactic(auto)]
+
 mod account;
 mod draft;
 mod refusals;

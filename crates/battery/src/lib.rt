@@ -1,4 +1,6 @@
 // The battery: what it can do for one home, and what it does for a group of homes in one half-hour.
+#![tactic(auto)]
+
 mod battery;
 mod rating;
 

@@ -1,4 +1,6 @@
 // Groups of homes by how many there are of each demand type.
+#![tactic(auto)]
+
 mod composition;
 mod demand_type;
 mod refusals;

@@ -1,4 +1,6 @@
 // Rules that say what a group of homes costs, behind one interface.
+#![tactic(auto)]
+
 mod cost_rule;
 mod fault;
 mod head;

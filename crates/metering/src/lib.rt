@@ -1,4 +1,6 @@
 // What a group of homes costs by its meter: the walk through a period, and the rules that price it.
+#![tactic(auto)]
+
 mod grid_rule;
 mod grid_tally;
 mod half_hour;

@@ -1,4 +1,6 @@
 // A period of half-hour readings: the words that write it down, and the check that they do.
+#![tactic(auto)]
+
 mod cursor;
 mod kinds;
 mod label;

@@ -1,4 +1,6 @@
 // Division of signed amounts, rounded to a whole number, exact for every amount that an i64 holds.
+#![tactic(auto)]
+
 mod divisor;
 mod round;
 

@@ -1,4 +1,6 @@
 // Shares by Shapley value, as whole numbers over a least common multiple.
+#![tactic(auto)]
+
 mod cost_table;
 mod ways;
 mod weight_table;

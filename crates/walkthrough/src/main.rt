@@ -1,4 +1,6 @@
 // A walk through one account: homes join, one is refused, bills are drafted, posted and withdrawn, and a sum of rules is drafted by.
+#![tactic(auto)]
+
 use account::{Account, Draft, JoinRefusal};
 use anyhow::anyhow;
 use cost_rules::{CostRule, HeadRule, ListedRule, SumRule};

@@ -1,5 +1,7 @@
 // Worked figures of accounts, batteries and periods, as tests: each can be followed by hand, or says how it was found.
 // Money is in hundredths of a penny, unless pence are named.
+#![tactic(auto)]
+
 #[cfg(test)]
 mod battery_tests;
 #[cfg(test)]
