@@ -3,7 +3,7 @@ use Rattle.std.proofs.Common.{◌≡◌, ℕ, ◌+◌, ◌*◌, ◌<◌, List, [
 use lib.IntN.{zero-*ℤ}
 use Rattle.std.proofs.lemmas.Int.{ints}
 use Rattle.rounding.specs.Rounding.{RoundedDown}
-use Rattle.rounding.proofs.Integers.{*ℤ_+ℤ, *ℤ--ℤ, +ℤ-*ℤ, *ℤ-one, *ℤ-assoc}
+use Rattle.rounding.proofs.Integers.{*ℤ_+ℤ, *ℤ_-ℤ, +ℤ_*ℤ, *ℤ_one, *ℤ_assoc}
 use Rattle.rounding.proofs.RoundingLaws.{down_unique}
 use Rattle.composition.specs.Amounts.{weighted}
 use Rattle.composition.specs.Counts.{total}
@@ -30,7 +30,7 @@ weighted_less [] pence rebate e = zero_less (zero-*ℤ rebate)
 weighted_less (n ∷ ns) [] rebate e = absurd (omega arith)
 weighted_less (n ∷ ns) (p ∷ ps) rebate e =
     joined (pos n *ℤ (p -ℤ rebate)) (pos n *ℤ p) (pos n *ℤ rebate) (weighted ns (map (λ u. u -ℤ rebate) ps)) (weighted ns ps) (pos (total ns) *ℤ rebate) (pos (n + total ns) *ℤ rebate)
-    (*ℤ--ℤ (pos n) p rebate) (weighted-less ns ps rebate (omega arith)) (+ℤ-*ℤ (pos n) (pos (total ns)) rebate)
+    (*ℤ_-ℤ (pos n) p rebate) (weighted-less ns ps rebate (omega arith)) (+ℤ_*ℤ (pos n) (pos (total ns)) rebate)
   where
     joined : (a b c w v t s : ℤ) → a ≡ b -ℤ c → w ≡ v -ℤ t → s ≡ c +ℤ t → a +ℤ w ≡ (b +ℤ v) -ℤ s
     joined a b c w v t s p q r = omega (arith, ints)
@@ -40,7 +40,7 @@ pub balance : (counts : List ℕ) (pence : List ℤ) (cost : ℤ) (purse : ℕ) 
     → pos 100 *ℤ weighted counts (map (λ u. u -ℤ rebate) pence) +ℤ pos purse ≡ cost +ℤ pos new_purse
 balance counts pence cost purse rebate new_purse e s =
     even (pos 100 *ℤ weighted counts (map (λ u. u -ℤ rebate) pence)) (pos 100 *ℤ weighted counts pence) (pos (100 * total counts) *ℤ rebate) cost (pos purse) (pos new_purse)
-    (ap (λ (x : ℤ). pos 100 *ℤ x) (weighted_less counts pence rebate e) ∙ *ℤ--ℤ (pos 100) (weighted counts pence) (pos (total counts) *ℤ rebate)
+    (ap (λ (x : ℤ). pos 100 *ℤ x) (weighted_less counts pence rebate e) ∙ *ℤ_-ℤ (pos 100) (weighted counts pence) (pos (total counts) *ℤ rebate)
     ∙ ap (λ (x : ℤ). pos 100 *ℤ weighted counts pence -ℤ x) (sym (*ℤ_assoc (pos 100) (pos (total counts)) rebate)))
     s.purse_is
   where

@@ -6,7 +6,7 @@ use Rattle.std.proofs.lemmas.Int.{ints}
 use Rattle.std.specs.Int.{int_div_euclid, int_rem_euclid}
 use Rattle.rounding.specs.Rounding.{RoundedUp, RoundedDown}
 use Rattle.rounding.proofs.RoundingLaws.{down_unique}
-use Rattle.rounding.proofs.Integers.{*ℤ_+ℤ, *ℤ--ℤ, *ℤ-one}
+use Rattle.rounding.proofs.Integers.{*ℤ_+ℤ, *ℤ_-ℤ, *ℤ_one}
 
 -- the amount is the divisor times the quotient, and the remainder
 pub divided : (a : ℤ) (d : ℕ) → 0 < d → a ≡ pos d *ℤ int_div_euclid a (pos d) +ℤ int_rem_euclid a (pos d)
@@ -46,7 +46,7 @@ up_past a q r d e below above = record {
 -- with none, it is the quotient
 up_exact : (a q r : ℤ) (d : ℕ) → a ≡ pos d *ℤ q +ℤ r → 0 < d → r ≡ pos 0 → RoundedUp a d q
 up_exact a q r d e p none = record {
-  below = short (pos d *ℤ q) (pos d *ℤ (q -ℤ pos 1)) e (*ℤ--ℤ (pos d) q (pos 1) ∙ ap (λ (x : ℤ). pos d *ℤ q -ℤ x) (*ℤ-one (pos d)));
+  below = short (pos d *ℤ q) (pos d *ℤ (q -ℤ pos 1)) e (*ℤ_-ℤ (pos d) q (pos 1) ∙ ap (λ (x : ℤ). pos d *ℤ q -ℤ x) (*ℤ_one (pos d)));
   reaches = same (pos d *ℤ q) e;
 }
   where

@@ -36,11 +36,11 @@ pub *ℤ_negℤ : (a b : ℤ) → a *ℤ neg_ℤ b ≡ neg_ℤ (a *ℤ b)
 pub negℤ_*ℤ : (a b : ℤ) → neg_ℤ a *ℤ b ≡ neg_ℤ (a *ℤ b)
 negℤ_*ℤ a b = *ℤ_comm (neg_ℤ a) b ∙ *ℤ_negℤ b a ∙ ap neg_ℤ (*ℤ_comm b a)
 
-pub *ℤ--ℤ : (a b c : ℤ) → a *ℤ (b -ℤ c) ≡ a *ℤ b -ℤ a *ℤ c
-*ℤ--ℤ a b c = *ℤ-+ℤ a b (neg_ℤ c) ∙ ap (λ (x : ℤ). a *ℤ b +ℤ x) (*ℤ-negℤ a c)
+pub *ℤ_-ℤ : (a b c : ℤ) → a *ℤ (b -ℤ c) ≡ a *ℤ b -ℤ a *ℤ c
+*ℤ_-ℤ a b c = *ℤ_+ℤ a b (neg_ℤ c) ∙ ap (λ (x : ℤ). a *ℤ b +ℤ x) (*ℤ_negℤ a c)
 
-pub _ℤ_*ℤ : (a b c : ℤ) → (a -ℤ b) *ℤ c ≡ a *ℤ c -ℤ b *ℤ c
-_ℤ_*ℤ a b c = +ℤ_*ℤ a (neg_ℤ b) c ∙ ap (λ (x : ℤ). a *ℤ c +ℤ x) (negℤ_*ℤ b c)
+pub -ℤ_*ℤ : (a b c : ℤ) → (a -ℤ b) *ℤ c ≡ a *ℤ c -ℤ b *ℤ c
+-ℤ_*ℤ a b c = +ℤ_*ℤ a (neg_ℤ b) c ∙ ap (λ (x : ℤ). a *ℤ c +ℤ x) (negℤ_*ℤ b c)
 
 pub *ℤ_assoc : (a b c : ℤ) → (a *ℤ b) *ℤ c ≡ a *ℤ (b *ℤ c)
 *ℤ_assoc (pos zero) b c = ap (λ (x : ℤ). x *ℤ c) (zero-*ℤ b) ∙ zero-*ℤ c ∙ sym (zero-*ℤ (b *ℤ c))
@@ -53,7 +53,7 @@ pub *ℤ_assoc : (a b c : ℤ) → (a *ℤ b) *ℤ c ≡ a *ℤ (b *ℤ c)
     minus_one : (b : ℤ) → negsuc zero *ℤ b ≡ neg_ℤ b
     minus_one b = omega (arith, ints)
 *ℤ_assoc (negsuc (suc n)) b c =
-    ap (λ (x : ℤ). x *ℤ c) (pred_ℤ-*ℤ (negsuc n) b) ∙ _ℤ_*ℤ (negsuc n *ℤ b) b c ∙ ap (λ (x : ℤ). x -ℤ b *ℤ c) (*ℤ_assoc (negsuc n) b c)
+    ap (λ (x : ℤ). x *ℤ c) (pred_ℤ-*ℤ (negsuc n) b) ∙ -ℤ_*ℤ (negsuc n *ℤ b) b c ∙ ap (λ (x : ℤ). x -ℤ b *ℤ c) (*ℤ_assoc (negsuc n) b c)
     ∙ sym (pred_ℤ-*ℤ (negsuc n) (b *ℤ c))
 
 pub *ℤ_left_comm : (a b c : ℤ) → a *ℤ (b *ℤ c) ≡ b *ℤ (a *ℤ c)
@@ -97,7 +97,7 @@ pub scale_≤ : (d : ℕ) (a b : ℤ) → a ≤ℤ b → (pos d *ℤ a) ≤ℤ (
 scale_≤ d a b h =
     let apart : pos 0 ≤ℤ (b -ℤ a) = omega (arith, ints) in
     let k : pos 0 ≤ℤ (pos d *ℤ (b -ℤ a)) = scale_nonneg d (b -ℤ a) apart in
-    up_again (pos d *ℤ a) (pos d *ℤ b) (pos d *ℤ (b -ℤ a)) k (*ℤ--ℤ (pos d) b a)
+    up_again (pos d *ℤ a) (pos d *ℤ b) (pos d *ℤ (b -ℤ a)) k (*ℤ_-ℤ (pos d) b a)
   where
     up_again : (x y z : ℤ) → pos 0 ≤ℤ z → z ≡ y -ℤ x → x ≤ℤ y
     up_again x y z k e = omega (arith, ints)
@@ -110,7 +110,7 @@ nonneg_cancels (suc d) (negsuc n) p h = absurd (let k : 0 < suc d * suc n = omeg
 
 pub cancel_≤ : (d : ℕ) (a b : ℤ) → 0 < d → (pos d *ℤ a) ≤ℤ (pos d *ℤ b) → a ≤ℤ b
 cancel_≤ d a b p h =
-    let k : pos 0 ≤ℤ (b -ℤ a) = nonneg_cancels d (b -ℤ a) p (gap (pos d *ℤ a) (pos d *ℤ b) (pos d *ℤ (b -ℤ a)) h (*ℤ--ℤ (pos d) b a)) in
+    let k : pos 0 ≤ℤ (b -ℤ a) = nonneg_cancels d (b -ℤ a) p (gap (pos d *ℤ a) (pos d *ℤ b) (pos d *ℤ (b -ℤ a)) h (*ℤ_-ℤ (pos d) b a)) in
     omega (arith, ints)
   where
     gap : (x y z : ℤ) → x ≤ℤ y → z ≡ y -ℤ x → pos 0 ≤ℤ z
