@@ -55,12 +55,12 @@ pub set_one_fewer : (i n : ℕ) (ns : List ℕ) → n ≡ count i ns - 1 → set
 set_one_fewer i n ns e = rw e (set_lowered i ns)
 
 -- a group of fewer than 24 stays a group with one home more
-pub one_more_fits : (i n : ℕ) (ns : List ℕ) → n ≡ count i ns + 1 → i < length ns → length ns ≡ 4 → total ns < 24 → (length (set ns i n) ≡ 4) × ((total (set ns i n) ≤ 24) × Unit {0})
-one_more_fits i n ns e within four few = rw (set_one_more i n ns e) (rw (length_raised i ns) four, (omega (arith, total_raised i ns within, few), tt))
+pub one_more_fits : (i n : ℕ) (ns : List ℕ) → n ≡ count i ns + 1 → i < length ns → length ns ≡ 4 → total ns < 24 → (length (set ns i n) ≡ 4) × (total (set ns i n) ≤ 24)
+one_more_fits i n ns e within four few = rw (set_one_more i n ns e) (rw (length_raised i ns) four, omega (arith, total_raised i ns within, few))
 
 -- and any group that has one stays a group with one home fewer
-pub one_fewer_fits : (i n : ℕ) (ns : List ℕ) → n ≡ count i ns - 1 → 0 < count i ns → length ns ≡ 4 → total ns ≤ 24 → (length (set ns i n) ≡ 4) × ((total (set ns i n) ≤ 24) × Unit {0})
-one_fewer_fits i n ns e some four few = rw (set_one_fewer i n ns e) (rw (length_lowered i ns) four, (omega (arith, total_lowered i ns some, few), tt))
+pub one_fewer_fits : (i n : ℕ) (ns : List ℕ) → n ≡ count i ns - 1 → 0 < count i ns → length ns ≡ 4 → total ns ≤ 24 → (length (set ns i n) ≡ 4) × (total (set ns i n) ≤ 24)
+one_fewer_fits i n ns e some four few = rw (set_one_fewer i n ns e) (rw (length_lowered i ns) four, omega (arith, total_lowered i ns some, few))
 
 -- a home that joins and leaves again leaves the counts as they were, and so does one that leaves and comes back
 pub lowered_raised : (i : ℕ) (ns : List ℕ) → lowered i (raised i ns) ≡ ns

@@ -6,14 +6,14 @@ use Rattle.composition.proofs.composition.Composition.weighted.Goals as goal
 sums : (c : goal.After-product-fourth) → SumOfFour c.product-first.result c.product-second.result c.product-third.result c.product-fourth.result
 sums c = sum_of_four _ _ _ _ c.product-first.ensures.size c.product-second.ensures.size c.product-third.ensures.size c.product-fourth.ensures.size
 
-pub overflow-add-result : goal.overflow-add-result
-overflow-add-result c = (sums c).last_two
+pub overflow_add-result : goal.overflow_add-result
+overflow_add-result c = (sums c).last_two
 
-pub overflow-add-result-2 : goal.overflow-add-result-2
-overflow-add-result-2 c = (sums c).last_three
+pub overflow_add-result-2 : goal.overflow_add-result-2
+overflow_add-result-2 c = (sums c).last_three
 
-pub overflow-add-result-3 : goal.overflow-add-result-3
-overflow-add-result-3 c = (sums c).all
+pub overflow_add-result-3 : goal.overflow_add-result-3
+overflow_add-result-3 c = (sums c).all
 
 pub returns : goal.returns
 returns c =

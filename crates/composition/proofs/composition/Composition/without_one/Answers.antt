@@ -1,14 +1,15 @@
-use Rattle.std.proofs.Common.{◌≡◌, sym, ap, ◌∙◌, arith}
+use Rattle.std.proofs.Common.{◌≡◌, ◌-◌, sym, refl, ap, ◌∙◌, arith}
 use Rattle.composition.specs.Counts.{count, lowered}
 use Rattle.composition.proofs.Changes.{set_one_fewer, one_fewer_fits}
 use Rattle.composition.proofs.composition.Composition.without_one.Goals as goal
 
-pub invariant-of-result : goal.invariant-of-result
-invariant-of-result c =
+pub invariant_of-result : goal.invariant_of-result
+invariant_of-result c =
     let i = c.position.result in
     let counts = c.args.self.now.counts in
     let read : c.count.result ≡ count i counts = c.count.ensures ∙ ap (λ j. count j counts) (sym c.position.ensures) in
-    one_fewer_fits i _ counts (omega arith) (omega (arith, read, c.if-count-eq0.false)) c.args.self.now.four c.args.self.now.few
+    let fits = one_fewer_fits i (count i counts - 1) counts refl (omega (arith, read, c.if-count-eq0.false)) c.args.self.now.four c.args.self.now.few in
+    record { four = fits.0; few = fits.1 }
 
 pub returns : goal.returns
 returns c =

@@ -9,8 +9,8 @@ product : (c : goal.Start) → let x : ℤ = to_z w64 c.args.count in let y : �
 product c =
     product_read c.args.count c.args.amount (to_z w64 c.args.count) (to_z w64 (of_z w64 (to_z w32 (of_z w32 c.args.amount)))) (omega arith) c.ranges.amount (omega (arith, ints)) (omega (arith, ints))
 
-pub overflow-mul-result : goal.overflow-mul-result
-overflow-mul-result c = between_fits 547608330240 _ (lit< tt) (product c).1
+pub overflow_mul-result : goal.overflow_mul-result
+overflow_mul-result c = between_fits 547608330240 _ (lit< tt) (product c).1
 
 pub returns : goal.returns
 returns c =
