@@ -45,8 +45,8 @@ fn lift(part: Result<i64, Fault>) -> Result<i64, Fault>
 
 // The two costs added, or a fault of the sum's own if that lies outside the limits.
 fn add(left: i64, right: i64) -> Result<i64, Fault>
-    requires within { Within left }
-    requires within_2 { Within right }
+    requires left_within { Within left }
+    requires right_within { Within right }
     ensures { result ≡ priced (left +ℤ right) }
 {
     price(left + right)

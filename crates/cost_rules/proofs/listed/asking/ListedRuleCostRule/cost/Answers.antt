@@ -12,5 +12,5 @@ in_table c =
 pub bounds-self-place : goal.bounds-self-place
 bounds-self-place c = in_table c
 
-pub offset-bounds-self-place : goal.offset-bounds-self-place
-offset-bounds-self-place c = let below = in_table c in search rules
+pub offset_bounds-self-place : goal.offset_bounds-self-place
+offset_bounds-self-place c = let below = in_table c in search rules
