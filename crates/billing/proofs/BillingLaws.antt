@@ -30,7 +30,7 @@ weighted_less [] pence rebate e = zero_less (zero-*ℤ rebate)
 weighted_less (n ∷ ns) [] rebate e = absurd (omega arith)
 weighted_less (n ∷ ns) (p ∷ ps) rebate e =
     joined (pos n *ℤ (p -ℤ rebate)) (pos n *ℤ p) (pos n *ℤ rebate) (weighted ns (map (λ u. u -ℤ rebate) ps)) (weighted ns ps) (pos (total ns) *ℤ rebate) (pos (n + total ns) *ℤ rebate)
-    (*ℤ_-ℤ (pos n) p rebate) (weighted-less ns ps rebate (omega arith)) (+ℤ_*ℤ (pos n) (pos (total ns)) rebate)
+    (*ℤ_-ℤ (pos n) p rebate) (weighted_less ns ps rebate (omega arith)) (+ℤ_*ℤ (pos n) (pos (total ns)) rebate)
   where
     joined : (a b c w v t s : ℤ) → a ≡ b -ℤ c → w ≡ v -ℤ t → s ≡ c +ℤ t → a +ℤ w ≡ (b +ℤ v) -ℤ s
     joined a b c w v t s p q r = omega (arith, ints)
