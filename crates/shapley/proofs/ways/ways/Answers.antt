@@ -41,14 +41,14 @@ products c =
     picked c.args.others.now.counts c.args.group.now.counts _ _ _ _ c.args.others.now.four c.args.group.now.four c.requires.few
     (c.choose.ensures ∙ read 0) (c.choose-2.ensures ∙ read 1) (c.choose-3.ensures ∙ read 2) (c.choose-4.ensures ∙ read 3)
 
-pub overflow-mul-result : goal.overflow-mul-result
-overflow-mul-result c = record { fits = omega (arith, (products c).last) }
+pub overflow_mul-result : goal.overflow_mul-result
+overflow_mul-result c = record { fits = omega (arith, (products c).last) }
 
-pub overflow-mul-result-2 : goal.overflow-mul-result-2
-overflow-mul-result-2 c = record { fits = omega (arith, (products c).later) }
+pub overflow_mul-result-2 : goal.overflow_mul-result-2
+overflow_mul-result-2 c = record { fits = omega (arith, (products c).later) }
 
-pub overflow-mul-result-3 : goal.overflow-mul-result-3
-overflow-mul-result-3 c = record { fits = omega (arith, (products c).all) }
+pub overflow_mul-result-3 : goal.overflow_mul-result-3
+overflow_mul-result-3 c = record { fits = omega (arith, (products c).all) }
 
 pub returns : goal.returns
 returns c = (products c).value

@@ -3,8 +3,8 @@ use Rattle.shapley.specs.Weights.{weight}
 use Rattle.shapley.proofs.Rows.{weight_pos, row_quotient}
 use Rattle.shapley.proofs.weight_table.choose.Goals as goal
 
-pub nonzero-div-result : goal.nonzero-div-result
-nonzero-div-result c =
+pub nonzero_div-result : goal.nonzero_div-result
+nonzero_div-result c =
     let of = c.args.of in
     let picked = c.args.picked in
     let within : picked < of + 1 = omega arith in

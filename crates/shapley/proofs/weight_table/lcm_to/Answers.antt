@@ -22,8 +22,8 @@ product c =
     let few : n ≤ 24 = omega arith in
     rw c.entry.ensures (omega (arith, lcm_from_row n (omega arith) few, ap lcm_to c.homes-homes.ensures))
 
-pub overflow-mul-result : goal.overflow-mul-result
-overflow-mul-result c =
+pub overflow_mul-result : goal.overflow_mul-result
+overflow_mul-result c =
     let n = total c.args.homes.now.counts in
     record { fits = omega (arith, product c, lcm_to_small n c.args.homes.now.few) }
 

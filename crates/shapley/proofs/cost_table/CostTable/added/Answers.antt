@@ -13,8 +13,8 @@ inside c =
     stepped_below (position c.args.of) c.place-place.result c.step.result homes.counts c.args.group.now.counts
     c.place-place.ensures.value c.step.ensures.value (omega (arith, position_below c.args.of)) c.requires
 
-pub overflow-add-further : goal.overflow-add-further
-overflow-add-further c =
+pub overflow_add-further : goal.overflow_add-further
+overflow_add-further c =
     let homes = c.args.self.now.homes in record { fits = omega (arith, inside c, size_small homes.counts homes.few) }
 
 pub cost-requires : goal.cost-requires
@@ -26,8 +26,8 @@ cost-requires-2 c =
     unstepped_below (position c.args.of) c.place-place.result homes.counts c.args.group.now.counts
     c.place-place.ensures.value (omega (arith, position_below c.args.of)) c.requires
 
-pub overflow-sub-result : goal.overflow-sub-result
-overflow-sub-result c =
+pub overflow_sub-result : goal.overflow_sub-result
+overflow_sub-result c =
     let x = c.cost.ensures.limits in
     let y = c.cost-2.ensures.limits in
     between_fits w64 (2 ^ 30) _ (lit< tt) (omega (arith, ints)) (omega (arith, ints))

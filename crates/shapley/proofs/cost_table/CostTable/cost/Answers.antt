@@ -3,8 +3,8 @@ use Rattle.std.proofs.lemmas.Int.{ints}
 use Rattle.shapley.proofs.Terms.{size_small}
 use Rattle.shapley.proofs.cost_table.CostTable.cost.Goals as goal
 
-pub offset-bounds-self-place : goal.offset-bounds-self-place
-offset-bounds-self-place c =
+pub offset_bounds-self-place : goal.offset_bounds-self-place
+offset_bounds-self-place c =
     let homes = c.args.self.now.homes in record { fits = omega (arith, size_small homes.counts homes.few) }
 
 pub bounds-self-place : goal.bounds-self-place

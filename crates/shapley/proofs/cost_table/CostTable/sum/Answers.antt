@@ -10,8 +10,8 @@ use Rattle.shapley.proofs.Terms.{all_summed, share_fits, size_small, between_fit
 use Rattle.shapley.proofs.cost_table.CostTable.sum.Goals as goal
 
 -- there are at most 2 ^ 24 places, and there too the invariant's bound fits
-pub overflow-add-sum : goal.overflow-add-sum
-overflow-add-sum c =
+pub overflow_add-sum : goal.overflow_add-sum
+overflow_add-sum c =
     let others = c.args.others.now in
     let size = size_small others.counts others.few in
     let sum = c.loop-place.invariant in
@@ -50,8 +50,8 @@ fits c =
     subst (SFits w64) (sym (summed c))
     (share_fits self.homes.counts c.args.of self.costs.now self.homes.four self.homes.few without.some self.limits)
 
-pub overflow-cast-result : goal.overflow-cast-result
-overflow-cast-result c = subst (SFits w64) (sym c.loop-place.sum-is) (fits c)
+pub overflow_cast-result : goal.overflow_cast-result
+overflow_cast-result c = subst (SFits w64) (sym c.loop-place.sum-is) (fits c)
 
 pub returns : goal.returns
-returns c = to_z-of_z w64 _ (overflow-cast-result c) ∙ c.loop-place.sum-is ∙ summed c
+returns c = to_z-of_z w64 _ (overflow_cast-result c) ∙ c.loop-place.sum-is ∙ summed c

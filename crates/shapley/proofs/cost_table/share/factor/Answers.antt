@@ -27,8 +27,8 @@ small c =
     let group = c.args.group.now.counts in
     omega (arith, value c, factor_small (total homes) (total group) others group c.args.homes.now.few (omega arith))
 
-pub overflow-mul-result : goal.overflow-mul-result
-overflow-mul-result c = record { fits = omega (arith, small c) }
+pub overflow_mul-result : goal.overflow_mul-result
+overflow_mul-result c = record { fits = omega (arith, small c) }
 
 pub returns : goal.returns
 returns c = record { value = value c; few = small c }

@@ -24,8 +24,8 @@ value :
     → to_z w128 (of_z w128 (to_z w128 c.args.factor *ℤ to_z w128 (of_z w128 (to_z w64 (of_z w64 c.args.cost))))) ≡ pos c.args.factor *ℤ c.args.cost
 value c = to_z-of_z w128 _ (small c) ∙ plain c
 
-pub overflow-mul-result : goal.overflow-mul-result
-overflow-mul-result c = small c
+pub overflow_mul-result : goal.overflow_mul-result
+overflow_mul-result c = small c
 
 pub returns : goal.returns
 returns c =
