@@ -61,7 +61,7 @@ joins_taken (opens o) k = 0
 joins_taken (joins h number r j) k = joins_taken h k + taken number r k
 joins_taken (leaves h number r l) k = joins_taken h k
 joins_taken (drafts h f l t u accepted) k = joins_taken h k
-joins_taken (refused h f l t u e ground) k = joins_taken h k
+joins_taken (refused h f l t u e why) k = joins_taken h k
 joins_taken (posts h p) k = joins_taken h k
 joins_taken (withdraws h w) k = joins_taken h k
 
@@ -71,7 +71,7 @@ leaves_taken (opens o) k = 0
 leaves_taken (joins h number r j) k = leaves_taken h k
 leaves_taken (leaves h number r l) k = leaves_taken h k + taken number r k
 leaves_taken (drafts h f l t u accepted) k = leaves_taken h k
-leaves_taken (refused h f l t u e ground) k = leaves_taken h k
+leaves_taken (refused h f l t u e why) k = leaves_taken h k
 leaves_taken (posts h p) k = leaves_taken h k
 leaves_taken (withdraws h w) k = leaves_taken h k
 
@@ -103,7 +103,7 @@ posted_bills (opens o) = pos 0
 posted_bills (joins h number r j) = posted_bills h
 posted_bills (leaves h number r l) = posted_bills h
 posted_bills (drafts h f l t u accepted) = posted_bills h
-posted_bills (refused h f l t u e ground) = posted_bills h
+posted_bills (refused h f l t u e why) = posted_bills h
 posted_bills (posts {d = d} h p) = posted_bills h +ℤ bills_of d
 posted_bills (withdraws h w) = posted_bills h
 
@@ -113,7 +113,7 @@ posted_costs (opens o) = pos 0
 posted_costs (joins h number r j) = posted_costs h
 posted_costs (leaves h number r l) = posted_costs h
 posted_costs (drafts h f l t u accepted) = posted_costs h
-posted_costs (refused h f l t u e ground) = posted_costs h
+posted_costs (refused h f l t u e why) = posted_costs h
 posted_costs (posts {d = d} {f = f} h p) = posted_costs h +ℤ cost_by f (homes_in d)
 posted_costs (withdraws h w) = posted_costs h
 
@@ -123,6 +123,6 @@ last_billed (opens o) = None
 last_billed (joins h number r j) = last_billed h
 last_billed (leaves h number r l) = last_billed h
 last_billed (drafts h f l t u accepted) = last_billed h
-last_billed (refused h f l t u e ground) = last_billed h
+last_billed (refused h f l t u e why) = last_billed h
 last_billed (posts {d = d} h p) = Some (total (homes_in d))
 last_billed (withdraws h w) = last_billed h

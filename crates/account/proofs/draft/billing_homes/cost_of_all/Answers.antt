@@ -12,13 +12,13 @@ last counts p e = omega (arith, place_below counts counts (inside_self counts), 
 pub bounds-costs-place : goal.bounds-costs-place
 bounds-costs-place c = omega (arith, last c.args.costs.now.homes.counts c.place.result c.place.ensures.value, c.args.costs.now.long)
 
-pub offset-bounds-costs-place : goal.offset-bounds-costs-place
-offset-bounds-costs-place c =
+pub offset_bounds-costs-place : goal.offset_bounds-costs-place
+offset_bounds-costs-place c =
     let below : c.place.result < length c.args.costs.now.costs.now = omega (arith, last c.args.costs.now.homes.counts c.place.result c.place.ensures.value, c.args.costs.now.long) in
     search rules
 
-pub overflow-cast-result : goal.overflow-cast-result
-overflow-cast-result c =
+pub overflow_cast-result : goal.overflow_cast-result
+overflow_cast-result c =
     let within : Within (get_or c.args.costs.now.costs.now c.place.result (pos 0)) = c.args.costs.now.limits c.place.result (last c.args.costs.now.homes.counts c.place.result c.place.ensures.value) in
     omega (arith, ints, within.0, within.1)
 
