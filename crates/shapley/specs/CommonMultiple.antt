@@ -1,5 +1,5 @@
 -- The least common multiple of 1 to n, the number that all shares among n homes are fractions over.
-use Rattle.std.specs.Prelude.{◌≡◌, ℕ, zero, suc, ◌+◌, ◌*◌, ◌/◌, ◌%◌, ◌≤◌}
+use Rattle.std.specs.Prelude.{◌≡◌, ℕ, zero, suc, ◌*◌, ◌/◌, ◌%◌, ◌≤◌}
 
 -- the first number divides the second
 abbrev pub Divides : ℕ → ℕ → Type 0
