@@ -1,12 +1,12 @@
 -- Reading a page's words gives its half-hours, with the tariffs in force.
-use Rattle.std.proofs.Common.{◌≡◌, ℕ, zero, suc, ◌+◌, ◌-◌, ◌<◌, ◌≤◌, true, false, List, [], ◌∷◌, ◌++◌, length, drop, Some, None, Option, sym, refl, ap, ◌∙◌, arith}
+use Rattle.std.proofs.Common.{◌≡◌, ℕ, zero, suc, ◌<◌, ◌≤◌, true, false, List, [], ◌∷◌, ◌++◌, length, drop, Some, None, Option, sym, refl, ap, ◌∙◌, arith}
 use Rattle.std.proofs.lemmas.List.{drop-drop, drop_at, append_assoc}
 use Rattle.std.proofs.lemmas.Bool.{eq-eqb, ne_eqb}
 use Rattle.period.proofs.Unreading.{same_half_hour}
 use Rattle.period.specs.InForce.{given, in_force, padded, reading_of, readings_after}
 use Rattle.period.specs.Limits.{most_value}
 use Rattle.period.specs.Pages.{Entry, tariff_words, words_of, entries_words, TariffWithin, AllWithin, EntriesWithin}
-use Rattle.period.specs.Unread.{stands, first_value, tariff_in, past, past_tariffs, demands_in, behind, unread}
+use Rattle.period.specs.Unread.{stands, first_value, tariff_in, past, past_tariffs, demands_in, unread}
 use Rattle.period.specs.Words.{kind_of, value_of, word, import_kind, export_kind, demand_kind, generation_kind}
 use Rattle.period.specs.declared.reading.Tariffs.{Tariffs}
 

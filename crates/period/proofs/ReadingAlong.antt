@@ -3,7 +3,6 @@ use Rattle.std.proofs.Common.{◌≡◌, ℕ, suc, ◌+◌, ◌-◌, ◌<◌, �
 use Rattle.period.specs.Along.{from, may_or_must, Hands, Refuses}
 use Rattle.period.specs.Limits.{most_value}
 use Rattle.period.specs.Reader.{Reader, times, tariff}
-use Rattle.period.specs.Words.{word}
 use Rattle.period.specs.declared.cursor.Cursor.{Cursor}
 use Rattle.period.specs.declared.label.Label.TheVariants.{Kind}
 use Rattle.period.specs.declared.refusals.Part.TheVariants.{HalfHour}

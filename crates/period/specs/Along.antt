@@ -1,6 +1,6 @@
 -- How the functions of the check read along with the reader: what is left to read, at the cursor, gives the whole. Only contracts inside the
 -- crate cite this.
-use Rattle.std.specs.Prelude.{◌≡◌, ℕ, ◌-◌, ◌≤◌, Bool, true, false, List, Some, None, Ok, Err, Option, Result}
+use Rattle.std.specs.Prelude.{◌≡◌, ℕ, ◌≤◌, Bool, true, false, List, Some, None, Ok, Err, Option, Result}
 use Rattle.period.specs.Labels.{base}
 use Rattle.period.specs.Pages.{Page}
 use Rattle.period.specs.Reader.{Reader, one, maybe, close, read}

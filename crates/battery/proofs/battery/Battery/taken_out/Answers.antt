@@ -4,16 +4,16 @@ use Rattle.std.proofs.lemmas.Nat.{mul-le}
 use Rattle.battery.specs.Ratings.{most_charge}
 use Rattle.battery.proofs.battery.Battery.taken_out.Goals as goal
 
-pub overflow-mul-homes : goal.overflow-mul-homes
-overflow-mul-homes c =
+pub overflow_mul-homes : goal.overflow_mul-homes
+overflow_mul-homes c =
     let small : c.args.self.now.rating.lowest ≤ most_charge = omega arith in
     record { fits = omega (arith, mul-le c.args.homes _ 255 _ (omega arith) small) }
 
-pub overflow-cast-yields-3 : goal.overflow-cast-yields-3
-overflow-cast-yields-3 c = record { fits = omega (arith, mul-le-mul_left c.saturating-sub-held.result c.args.self.now.yields) }
+pub overflow_cast-yields-3 : goal.overflow_cast-yields-3
+overflow_cast-yields-3 c = record { fits = omega (arith, mul-le-mul_left c.saturating_sub-held.result c.args.self.now.yields) }
 
 pub returns : goal.returns
 returns c = record {
-  value = omega (arith, ap (λ (held : ℕ). held * c.args.self.now.rating.discharging) c.saturating-sub-held.ensures);
+  value = omega (arith, ap (λ (held : ℕ). held * c.args.self.now.rating.discharging) c.saturating_sub-held.ensures);
   small = omega (arith, mul-le c.args.homes _ 255 _ (omega arith) c.args.self.now.slow);
 }

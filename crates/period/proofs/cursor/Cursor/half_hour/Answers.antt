@@ -35,63 +35,63 @@ export_read :
 export_read first types old new i x hands next =
     tariff_along first export_kind (demands_next types next i) old.rest.now old.place ∙ hands (demands_next types next i)
 
-pub returns-in-err-tariff : goal.returns-in-err-tariff
-returns-in-err-tariff c =
-    let answer = err_from_is_err_and c.from-residual.result c.from-residual.ensures.1 in
+pub returns-in_err-tariff : goal.returns-in_err-tariff
+returns-in_err-tariff c =
+    let answer = err_from_is_err_and c.from_residual.result c.from_residual.ensures.1 in
     let at = c.args.self.now in
     let first = c.args.first in
     rw (answer.1, answer.2)
     (λ next. tariff_along first import_kind (export_next first c.args.types next) at.rest.now at.place
-    ∙ c.in-err-tariff.ensures (export_next first c.args.types next))
+    ∙ c.in_err-tariff.ensures (export_next first c.args.types next))
 
-pub returns-in-err-tariff-2 : goal.returns-in-err-tariff-2
-returns-in-err-tariff-2 c =
-    let answer = err_from_is_err_and c.from-residual-in-err-tariff-2.result c.from-residual-in-err-tariff-2.ensures.1 in
+pub returns-in_err-tariff-2 : goal.returns-in_err-tariff-2
+returns-in_err-tariff-2 c =
+    let answer = err_from_is_err_and c.from_residual-in_err-tariff-2.result c.from_residual-in_err-tariff-2.ensures.1 in
     let at = c.tariff.new.self in
     let first = c.args.first in
     let types = c.args.types in
-    let i = c.in-ok-tariff.ensures in
+    let i = c.in_ok-tariff.ensures in
     rw (answer.1, answer.2)
     (λ next. import_read first types c.args.self.now at i.0 i.1 next
     ∙ tariff_along first export_kind (demands_next types next i.0) at.rest.now at.place
-    ∙ c.in-err-tariff-2.ensures (demands_next types next i.0))
+    ∙ c.in_err-tariff-2.ensures (demands_next types next i.0))
 
-pub returns-in-err-demands : goal.returns-in-err-demands
-returns-in-err-demands c =
-    let answer = err_from_is_err_and c.from-residual-in-err-demands.result c.from-residual-in-err-demands.ensures.1 in
+pub returns-in_err-demands : goal.returns-in_err-demands
+returns-in_err-demands c =
+    let answer = err_from_is_err_and c.from_residual-in_err-demands.result c.from_residual-in_err-demands.ensures.1 in
     let first = c.args.first in
     let types = c.args.types in
-    let i = c.in-ok-tariff.ensures in
-    let x = c.in-ok-tariff-2.ensures in
+    let i = c.in_ok-tariff.ensures in
+    let x = c.in_ok-tariff-2.ensures in
     rw (answer.1, answer.2)
     (λ next. import_read first types c.args.self.now c.tariff.new.self i.0 i.1 next
     ∙ export_read first types c.tariff.new.self c.tariff-2.new.self i.0 x.0 x.1 next
-    ∙ c.in-err-demands.ensures (generation_next next i.0 x.0))
+    ∙ c.in_err-demands.ensures (generation_next next i.0 x.0))
 
-pub returns-in-err-word : goal.returns-in-err-word
-returns-in-err-word c =
-    let answer = err_from_is_err_and c.from-residual-in-err-word.result c.from-residual-in-err-word.ensures.1 in
+pub returns-in_err-word : goal.returns-in_err-word
+returns-in_err-word c =
+    let answer = err_from_is_err_and c.from_residual-in_err-word.result c.from_residual-in_err-word.ensures.1 in
     let first = c.args.first in
     let types = c.args.types in
-    let i = c.in-ok-tariff.ensures in
-    let x = c.in-ok-tariff-2.ensures in
-    let ds = c.in-ok-demands.ensures in
+    let i = c.in_ok-tariff.ensures in
+    let x = c.in_ok-tariff-2.ensures in
+    let ds = c.in_ok-demands.ensures in
     rw (answer.1, answer.2)
     (λ next. import_read first types c.args.self.now c.tariff.new.self i.0 i.1 next
     ∙ export_read first types c.tariff.new.self c.tariff-2.new.self i.0 x.0 x.1 next
     ∙ ds.1 (generation_next next i.0 x.0)
-    ∙ c.in-err-word.ensures.reads (λ g. next (record { import = i.0; export = x.0; demands = ds.0; generation = g })))
+    ∙ c.in_err-word.ensures.reads (λ g. next (record { import = i.0; export = x.0; demands = ds.0; generation = g })))
 
 pub returns : goal.returns
 returns c =
     let first = c.args.first in
     let types = c.args.types in
-    let i = c.in-ok-tariff.ensures in
-    let x = c.in-ok-tariff-2.ensures in
-    let ds = c.in-ok-demands.ensures in (
-      record { import = i.0; export = x.0; demands = ds.0; generation = c.in-ok-word.field-0 },
+    let i = c.in_ok-tariff.ensures in
+    let x = c.in_ok-tariff-2.ensures in
+    let ds = c.in_ok-demands.ensures in (
+      record { import = i.0; export = x.0; demands = ds.0; generation = c.in_ok-word.field-0 },
       λ next. import_read first types c.args.self.now c.tariff.new.self i.0 i.1 next
           ∙ export_read first types c.tariff.new.self c.tariff-2.new.self i.0 x.0 x.1 next
           ∙ ds.1 (generation_next next i.0 x.0)
-          ∙ c.in-ok-word.ensures.reads (λ g. next (record { import = i.0; export = x.0; demands = ds.0; generation = g })),
+          ∙ c.in_ok-word.ensures.reads (λ g. next (record { import = i.0; export = x.0; demands = ds.0; generation = g })),
     )

@@ -10,5 +10,5 @@ returns c =
     let high = c.if-value-slot-2.false in
     record {
       within = (omega (arith, low), omega (arith, high));
-      reads = taken c.args.slot at.rest.now at.place c.in-ok-value.value some c.in-ok-value.ensures.0 (omega (arith, low)) (omega (arith, high));
+      reads = taken c.args.slot at.rest.now at.place c.in_ok-value.value some c.in_ok-value.ensures.0 (omega (arith, low)) (omega (arith, high));
     }

@@ -6,10 +6,10 @@ use Rattle.period.specs.InForce.{readings, no_tariffs}
 use Rattle.period.specs.Unread.{unread}
 use Rattle.period.proofs.period.Period.readings.Goals as goal
 
-pub invariant-of-result : goal.invariant-of-result
-invariant-of-result c =
+pub invariant_of-result : goal.invariant_of-result
+invariant_of-result c =
     let p = begins c.args.self.now.words.now c.args.self.now.accepted in
-    (omega (arith, c.types.ensures.value, p.within.few_types), tt)
+    record { few = omega (arith, c.types.ensures.value, p.within.few_types) }
 
 pub returns : goal.returns
 returns c =
