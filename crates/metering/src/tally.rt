@@ -25,7 +25,7 @@ pub(crate) trait Tally: Sized {
 
     fn take(&mut self, half: &HalfHour)
         requires small { Small half.now }
-        requires by_index { (n : ℕ) × room self.old (suc n) }
+        requires spare { (n : ℕ) × room self.old (suc n) }
         ensures taken { (halves : List Half) → over self.new halves ≡ over self.old (half.now ∷ halves) }
         ensures less { (n : ℕ) → room self.old (suc n) → room self.new n };
 

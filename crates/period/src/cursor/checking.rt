@@ -30,7 +30,7 @@ impl Cursor<'_> {
     // A tariff, which only the first half-hour must have.
     fn tariff(&mut self, slot: Slot, first: bool) -> Result<(), PeriodRefusal>
         requires proper { Proper slot.label }
-        requires most_bound { slot.most < span slot.label }
+        requires fits { slot.most < span slot.label }
         ensures { Passes (may_or_must first slot) self.old result self.new }
     {
         if first {

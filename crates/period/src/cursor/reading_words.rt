@@ -21,7 +21,7 @@ impl<'a> Cursor<'a> {
     // The value of the next word, which is read if it is the one that is wanted.
     pub(crate) fn take(&mut self, slot: Slot) -> Option<u32>
         requires proper { Proper slot.label }
-        requires most_bound { slot.most < span slot.label }
+        requires fits { slot.most < span slot.label }
         ensures within { TakenInSlot slot result }
         ensures reads { Hands (maybe_in slot) self.old result self.new }
     {
@@ -40,7 +40,7 @@ impl<'a> Cursor<'a> {
     // The value of the next word, which must be the one that is wanted.
     pub(crate) fn word(&mut self, slot: Slot) -> Result<u32, PeriodRefusal>
         requires proper { Proper slot.label }
-        requires most_bound { slot.most < span slot.label }
+        requires fits { slot.most < span slot.label }
         ensures within { ReadInSlot slot result }
         ensures reads { Answers (wanted slot) self.old result self.new }
     {

@@ -15,14 +15,14 @@ demanded :
     (sum ≡ demand_of group.counts each) × (sum ≤ most_energy)
 demanded group told each is four small = rw is (demand_four group.counts each group.four four group.few small)
 
-pub overflow-add-result : goal.overflow-add-result
-overflow-add-result c = record { fits = omega (arith, (demanded c.args.group.now c.counts.result c.args.each.now c.counts.ensures c.told-each c.requires).1) }
+pub overflow_add-result : goal.overflow_add-result
+overflow_add-result c = record { fits = omega (arith, (demanded c.args.group.now c.counts.result c.args.each.now c.counts.ensures c.told-each c.requires).1) }
 
-pub overflow-add-result-2 : goal.overflow-add-result-2
-overflow-add-result-2 c = record { fits = omega (arith, (demanded c.args.group.now c.counts.result c.args.each.now c.counts.ensures c.told-each c.requires).1) }
+pub overflow_add-result-2 : goal.overflow_add-result-2
+overflow_add-result-2 c = record { fits = omega (arith, (demanded c.args.group.now c.counts.result c.args.each.now c.counts.ensures c.told-each c.requires).1) }
 
-pub overflow-add-result-3 : goal.overflow-add-result-3
-overflow-add-result-3 c = record { fits = omega (arith, (demanded c.args.group.now c.counts.result c.args.each.now c.counts.ensures c.told-each c.requires).1) }
+pub overflow_add-result-3 : goal.overflow_add-result-3
+overflow_add-result-3 c = record { fits = omega (arith, (demanded c.args.group.now c.counts.result c.args.each.now c.counts.ensures c.told-each c.requires).1) }
 
 pub returns : goal.returns
 returns c =

@@ -11,8 +11,8 @@ use Rattle.metering.specs.Demands.{group_of}
 use Rattle.metering.specs.Tallies.{most_energy}
 use Rattle.metering.proofs.walk.walk.Goals as goal
 
-pub overflow-mul-charge : goal.overflow-mul-charge
-overflow-mul-charge g c =
+pub overflow_mul-charge : goal.overflow_mul-charge
+overflow_mul-charge g c =
     let b = c.battery-battery.result in
     let n = c.homes-homes.result in
     let low = mul-le n b.rating.lowest n b.rating.highest (omega arith) b.ordered in
@@ -29,8 +29,8 @@ loop-reading-init g c =
 pub demand-demand-requires : goal.demand-demand-requires
 demand-demand-requires g c = (first_small _ _ c.in-Some.reading c.in-Some.ensures c.loop-reading.invariant.small).demands_small
 
-pub overflow-mul-generation : goal.overflow-mul-generation
-overflow-mul-generation g c =
+pub overflow_mul-generation : goal.overflow_mul-generation
+overflow_mul-generation g c =
     let r = first_small _ _ c.in-Some.reading c.in-Some.ensures c.loop-reading.invariant.small in
     record { fits = omega (arith, mul-le c.homes-homes.result _ 255 _ (omega arith) r.generation_small) }
 
@@ -42,17 +42,18 @@ take-requires g c =
     let few : n ≤ most = omega (arith, c.homes-homes.ensures, c.args.group.now.few) in
     let generation = n * c.in-Some.reading.generation in
     let most_generation : generation ≤ most_energy = mul-le n c.in-Some.reading.generation most most_value few r.generation_small in
-    let charge = c.loop-reading.charge in (
-      record {
+    let charge = c.loop-reading.charge in
+    record {
+      small = record {
         demand_small = c.demand-demand.ensures.small;
         generation_small = most_generation;
         import_small = omega (arith, c.step-after.ensures.import, import_within b n charge c.demand-demand.result generation, c.demand-demand.ensures.small);
         export_small = omega (arith, c.step-after.ensures.export, export_within b n charge c.demand-demand.result generation, most_generation);
         import_tariff = r.import_small;
         export_tariff = r.export_small;
-      },
-      first_spare (g.T.Tally.room c.loop-reading.tally) _ _ c.in-Some.reading c.in-Some.ensures c.loop-reading.invariant.spare,
-    )
+      };
+      spare = first_spare (g.T.Tally.room c.loop-reading.tally) _ _ c.in-Some.reading c.in-Some.ensures c.loop-reading.invariant.spare;
+    }
 
 pub loop-reading-smaller : goal.loop-reading-smaller
 loop-reading-smaller g c = omega (arith, ap length c.in-Some.ensures)
@@ -68,8 +69,8 @@ loop-reading-preserved g c =
 pub returns : goal.returns
 returns g c =
     let n = group_of c.args.group.now.counts in
-    to_z-of_z {w = w64} (record { sfits = c.cost.type-inv })
+    to_z-of_z {w = w64} (record { sfits = c.cost.type_inv })
     ∙ c.cost.ensures
     ∙ walk_ended (g.T.Tally.over c.loop-reading.tally) (g.T.Tally.over c.start-tally.result) (g.T.Tally.meaning c.args.terms) (g.T.Tally.room c.loop-reading.tally)
-    c.battery-battery.result.rating (page c.args.period.now) n c.loop-reading.charge _ _ _ c.loop-reading.invariant c.in-default.ensures.0
+    c.battery-battery.result.rating (page c.args.period.now) n c.loop-reading.charge _ _ _ c.loop-reading.invariant c.in_default.ensures.0
     c.battery-battery.ensures.value (rw c.homes-homes.ensures (omega arith)) c.readings-readings.ensures.value c.start-tally.ensures.empty

@@ -5,5 +5,5 @@ use Rattle.metering.proofs.grid_tally.GridTallyTally.cost.Goals as goal
 
 pub returns : goal.returns
 returns c =
-    to_z-of_z {w = w64} (record { sfits = c.round-down.type-inv })
-    ∙ grid_ended c.args.self.paid c.args.self.earned _ c.round-down.result (omega (arith, ints, c.requires.0, c.requires.1)) c.round-down.ensures
+    to_z-of_z {w = w64} (record { sfits = c.round_down.type_inv })
+    ∙ grid_ended c.args.self.paid c.args.self.earned _ c.round_down.result (omega (arith, ints, c.requires.0, c.requires.1)) c.round_down.ensures

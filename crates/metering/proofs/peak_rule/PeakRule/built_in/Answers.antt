@@ -3,4 +3,4 @@ use Rattle.metering.proofs.Promises.{peak_promise}
 use Rattle.metering.proofs.peak_rule.PeakRule.built_in.Goals as goal
 
 pub returns : goal.returns
-returns c = record { holds = (c.built-in.ensures.words, refl); promise = peak_promise c.built-in.result 0 }
+returns c = record { holds = (c.built_in.ensures.words, refl); promise = peak_promise c.built_in.result 0 }
