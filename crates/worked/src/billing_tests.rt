@@ -3,6 +3,7 @@ use crate::told::*;
 use account::Account;
 use cost_rules::{HeadRule, ListedRule, SumRule};
 use std::process::Abort;
+use std::test::Fail;
 
 // Up to two homes of type 1 and one of type 2, the count of type 1 running fastest.
 static COSTS: [i32; 6] = [0, 600, 1000, 900, 1100, 1600];

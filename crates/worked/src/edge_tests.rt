@@ -1,5 +1,6 @@
 // Shares of 24 homes at the limits of costs, where a share comes near the ends of an i64.
 use crate::told::*;
+use std::test::Fail;
 
 // What up to one home of type 1 and 23 of type 2 cost: a group with the home of type 1 the first amount, any other but
 // nobody the second.

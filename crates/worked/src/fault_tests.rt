@@ -3,6 +3,7 @@ use crate::broken::*;
 use crate::told::*;
 use cost_rules::{CostRule, HeadRule, ListedRule, SumRule};
 use std::process::Abort;
+use std::test::Fail;
 
 // A draft of a new account is refused for a fault, given by place, number and rung, and leaves this in a table of 77s.
 fn check_fault<R: CostRule>(

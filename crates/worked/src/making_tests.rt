@@ -3,6 +3,7 @@ use crate::told::*;
 use composition::Composition;
 use cost_rules::{CostRule, HeadRule, ListedRule};
 use std::process::Abort;
+use std::test::Fail;
 
 // What a rule answers for a group: its cost, or the number of its fault.
 fn cost_by<R: CostRule>(rule: &R, counts: [u8; 4]) -> Result<i64, u8> {

@@ -1,5 +1,6 @@
 // Who joins and leaves, and the numbers of the refusals.
 use crate::told::*;
+use std::test::Fail;
 
 // A number of no type is told before that the account is full.
 #[test]

@@ -3,6 +3,7 @@ use crate::broken::*;
 use crate::told::*;
 use cost_rules::HeadRule;
 use std::process::Abort;
+use std::test::Fail;
 
 // A draft of a new account, by a rule with a fault, is refused with this number before the rule is asked: the table stays.
 fn check_refused(

@@ -2,6 +2,7 @@
 use crate::told::*;
 use account::{Account, Draft};
 use std::process::Abort;
+use std::test::Fail;
 
 // In how many orders so many homes can arrive.
 const ORDERS: [i128; 7] = [1, 1, 2, 6, 24, 120, 720];
