@@ -14,6 +14,8 @@ import sys
 
 # Spelled otherwise than by the rule: an operator at the end, a type, and proper names inside.
 SPECIAL = {
+    "*ℤ--ℤ": "*ℤ_-ℤ",
+    "-ℤ-*ℤ": "-ℤ_*ℤ",
     "sum-over-++": "sum_over_append",
     "Both-within": "BothWithin",
     "≤ℤ-of-≡": "≤ℤ_of_≡",
@@ -28,7 +30,7 @@ BINDER = re.compile(r"[({]((?:[^\s(){}\[\],.;:=\"]+\s+)*[^\s(){}\[\],.;:=\"]+)\s
 
 
 def dashed(name):
-    return re.search(r"[^-]-[^->]", name) is not None and not name.startswith("--")
+    return name in SPECIAL or re.search(r"[^-]-[^->]", name) is not None
 
 
 def new_name(name):
@@ -41,7 +43,7 @@ def code_of(line, antt):
     while i < len(line):
         if line[i] == '"' and (i == 0 or line[i - 1] != "\\"):
             quoted = not quoted
-        elif not quoted and line.startswith("--" if antt else "//", i):
+        elif not quoted and line.startswith("--" if antt else "//", i) and (i == 0 or line[i - 1].isspace()):
             return line[:i], line[i:]
         i += 1
     return line, ""
@@ -91,7 +93,7 @@ def declared(text, path):
         m = re.match(r"^([^\s(){}\[\],.;:=\"]+)((?:\s+[^\s(){}\[\],.;:=\"]+)+)\s*=", code)
         if m:
             names += m.group(2).split()
-        found |= {n for n in names if dashed(n) and re.search(r"\w-\w|-\+|ℤ-|-≤|-<", n)}
+        found |= {n for n in names if n in SPECIAL or (dashed(n) and re.search(r"\w-\w|-\+|ℤ-|-≤|-<", n))}
     return found
 
 
