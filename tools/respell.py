@@ -90,10 +90,10 @@ def declared(text, path):
         names += LOCAL.findall(code)
         for group in BINDER.findall(code):
             names += group.split()
-        m = re.match(r"^([^\s(){}\[\],.;:=\"]+)((?:\s+[^\s(){}\[\],.;:=\"]+)+)\s*=", code)
+        m = re.match(r"^[^\s(){}\[\],.;:=\"]+\s+([^=:]*)=", code)
         if m:
-            names += m.group(2).split()
-        found |= {n for n in names if n in SPECIAL or (dashed(n) and re.search(r"\w-\w|-\+|ℤ-|-≤|-<", n))}
+            names += re.findall(r"[^\s(){}\[\],.;\"]+", m.group(1))
+        found |= {n for n in names if dashed(n)}
     return found
 
 

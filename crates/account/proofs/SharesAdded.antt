@@ -62,7 +62,7 @@ pub shares_add :
     → AreHomes i (home ∷ others)
     → AreHomes j (home ∷ others)
     → SharesAdd d e s home
-shares_add {terms} l₁ l₂ l₃ {d} {e} {s} {f} {g} {k} h i j means home others are-h are-i are-j =
+shares_add {terms} l₁ l₂ l₃ {d} {e} {s} {f} {g} {k} h i j means home others are_h are_i are_j =
     record {
       first = one.line;
       second = two.line;
@@ -80,16 +80,16 @@ shares_add {terms} l₁ l₂ l₃ {d} {e} {s} {f} {g} {k} h i j means home other
     shared m = share counts (position home) (cost_by m)
 
     one : HasShare (shared f) (line_of d home)
-    one = home_has_share (drafted_by h) home others (counts_drafted h (home ∷ others) are-h)
+    one = home_has_share (drafted_by h) home others (counts_drafted h (home ∷ others) are_h)
 
     two : HasShare (shared g) (line_of e home)
-    two = home_has_share (drafted_by i) home others (counts_drafted i (home ∷ others) are-i)
+    two = home_has_share (drafted_by i) home others (counts_drafted i (home ∷ others) are_i)
 
     three : HasShare (shared k) (line_of s home)
-    three = home_has_share (drafted_by j) home others (counts_drafted j (home ∷ others) are-j)
+    three = home_has_share (drafted_by j) home others (counts_drafted j (home ∷ others) are_j)
 
     inside : (n : List ℕ) → Inside n counts → Inside n (homes_in s)
-    inside n p = subst (λ (ns : List ℕ). Inside n ns) (counts_drafted j (home ∷ others) are-j) p
+    inside n p = subst (λ (ns : List ℕ). Inside n ns) (counts_drafted j (home ∷ others) are_j) p
 
     sum : shared k ≡ shared f +ℤ shared g
     sum =

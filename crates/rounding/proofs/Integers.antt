@@ -62,8 +62,8 @@ pub *ℤ_left_comm : (a b c : ℤ) → a *ℤ (b *ℤ c) ≡ b *ℤ (a *ℤ c)
 pub +ℤ_left_comm : (a b c : ℤ) → a +ℤ (b +ℤ c) ≡ b +ℤ (a +ℤ c)
 +ℤ_left_comm a b c = omega (arith, ints)
 
-pub one-*ℤ : (a : ℤ) → pos 1 *ℤ a ≡ a
-one-*ℤ a = omega (arith, ints)
+pub one_*ℤ : (a : ℤ) → pos 1 *ℤ a ≡ a
+one_*ℤ a = omega (arith, ints)
 
 pub *ℤ_one : (a : ℤ) → a *ℤ pos 1 ≡ a
 *ℤ_one a = omega (arith, ints)
@@ -116,8 +116,8 @@ cancel_≤ d a b p h =
     gap : (x y z : ℤ) → x ≤ℤ y → z ≡ y -ℤ x → pos 0 ≤ℤ z
     gap x y z k e = omega (arith, ints)
 
-pub cancel-≡ : (d : ℕ) (a b : ℤ) → 0 < d → pos d *ℤ a ≡ pos d *ℤ b → a ≡ b
-cancel-≡ d a b p e =
+pub cancel_≡ : (d : ℕ) (a b : ℤ) → 0 < d → pos d *ℤ a ≡ pos d *ℤ b → a ≡ b
+cancel_≡ d a b p e =
     ≤ℤ_antisym a b (cancel_≤ d a b p (≤ℤ_of_≡ e)) (cancel_≤ d b a p (≤ℤ_of_≡ (sym e)))
 
 pub cancel_< : (d : ℕ) (a b : ℤ) → (pos d *ℤ a) <ℤ (pos d *ℤ b) → a <ℤ b

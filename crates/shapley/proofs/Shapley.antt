@@ -10,7 +10,7 @@ use Rattle.composition.specs.Types.{position}
 use Rattle.composition.specs.declared.demand_type.DemandType.{DemandType}
 use Rattle.composition.specs.declared.demand_type.DemandType.TheVariants.{One, Two, Three, Four}
 use Rattle.shapley.proofs.Combinatorics.{factorial_pos}
-use Rattle.rounding.proofs.Integers.{*ℤ_+ℤ, *ℤ_negℤ, *ℤ_assoc, *ℤ_left_comm, scale_≤, cancel-≡}
+use Rattle.rounding.proofs.Integers.{*ℤ_+ℤ, *ℤ_negℤ, *ℤ_assoc, *ℤ_left_comm, scale_≤, cancel_≡}
 use Rattle.shapley.proofs.SubsetsToCounts.{length_is_total, position_inside, subsets_by_counts, orders_add_up}
 use Rattle.shapley.proofs.Sums.{box_sum_cong, box_sum_scale, box_sum_adds, box_sum_mono, subset_sum_cong, subset_sum_scale}
 use Rattle.shapley.proofs.Weights.{weight_factorials}
@@ -118,7 +118,7 @@ share_is_shapley c home others h =
 pub weights_add_up : (others : List DemandType) (y : ℤ) → suc (length others) ≤ 24
     → box_sum (counts_of others) (λ n. pos (weight (suc (length others)) (total n) * ways (counts_of others) n) *ℤ y) ≡ pos (lcm_to (suc (length others))) *ℤ y
 weights_add_up others y h =
-    cancel-≡ all (weighted (suc (length others)) (counts_of others) (λ n. y)) (pos l *ℤ y) (factorial_pos (suc (length others)))
+    cancel_≡ all (weighted (suc (length others)) (counts_of others) (λ n. y)) (pos l *ℤ y) (factorial_pos (suc (length others)))
     (weighted_is_ordered others (λ n. y) h ∙ ap (λ (x : ℤ). pos l *ℤ x) every ∙ *ℤ_left_comm (pos l) (pos all) y)
   where
     all : ℕ

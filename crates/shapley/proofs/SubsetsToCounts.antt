@@ -7,7 +7,7 @@ use Rattle.composition.specs.Counts.{total, raised}
 use Rattle.composition.specs.Types.{position}
 use Rattle.composition.specs.declared.demand_type.DemandType.{DemandType}
 use Rattle.shapley.proofs.Combinatorics.{choose_above, choose_factorials}
-use Rattle.rounding.proofs.Integers.{*ℤ_+ℤ, +ℤ_*ℤ, *ℤ_assoc, one-*ℤ}
+use Rattle.rounding.proofs.Integers.{*ℤ_+ℤ, +ℤ_*ℤ, *ℤ_assoc, one_*ℤ}
 use Rattle.shapley.proofs.Sums.{range_sum_cong, range_sum_scale, range_sum_adds, range_sum_same, box_sum_cong, box_sum_adds}
 use Rattle.shapley.specs.Combinations.{factorial, choose, ways}
 use Rattle.shapley.specs.Shares.{range_sum, box_sum}
@@ -54,7 +54,7 @@ picked_more n g =
     none = ap (λ (x : ℕ). pos x *ℤ g (suc n)) (choose_above n (suc n) (omega arith)) ∙ zero-*ℤ (g (suc n))
 
 pub subsets_by_size : {P : Type 0} (ps : List P) (g : ℕ → ℤ) → subset_sum ps (λ s. g (length s)) ≡ range_sum (length ps) (λ j. pos (choose (length ps) j) *ℤ g j)
-subsets_by_size [] g = sym (one-*ℤ (g 0))
+subsets_by_size [] g = sym (one_*ℤ (g 0))
 subsets_by_size (p ∷ ps) g =
     ap₂ (λ (x y : ℤ). x +ℤ y) (subsets_by_size ps g) (subsets_by_size ps (λ j. g (suc j))) ∙ sym (picked_more (length ps) g)
 
@@ -114,7 +114,7 @@ grouped_more (m ∷ ms) (suc i) h g =
     ∙ sym (ap₂ (λ (x y : ℤ). x +ℤ y) (grouped_first m ms g) (grouped_first m ms (λ n. g (raised (suc i) n))))
 
 pub subsets_by_counts : (hs : List DemandType) (g : List ℕ → ℤ) → subset_sum hs (λ s. g (counts_of s)) ≡ box_sum (counts_of hs) (λ n. pos (ways (counts_of hs) n) *ℤ g n)
-subsets_by_counts [] g = sym (one-*ℤ (g (0 ∷ 0 ∷ 0 ∷ 0 ∷ [])))
+subsets_by_counts [] g = sym (one_*ℤ (g (0 ∷ 0 ∷ 0 ∷ 0 ∷ [])))
 subsets_by_counts (k ∷ hs) g =
     ap₂ (λ (x y : ℤ). x +ℤ y) (subsets_by_counts hs g) (subsets_by_counts hs (λ n. g (raised (position k) n)))
     ∙ sym (grouped_more (counts_of hs) (position k) (position_inside k hs) g)
