@@ -14,9 +14,8 @@ use Rattle.shapley.specs.Shares.{share}
 use Rattle.account.specs.Bills.{cost_of, cost_by, homes_in, line_of, Line, Billed}
 use Rattle.account.specs.declared.account.Account.{Account}
 use Rattle.account.specs.declared.draft.Draft.{Draft}
-use Rattle.account.specs.Filling.{FilledTo, FaultAt, CostAt, FillEnds}
-use Rattle.account.specs.declared.refusals.DraftRefusal.{DraftRefusal}
-use Rattle.account.specs.declared.refusals.DraftRefusal.TheVariants.{NoHomes, TableTooShort, NumbersUsedUp, Faulty}
+use Rattle.account.specs.Filling.{FilledTo, FaultAt, FillEnds}
+use Rattle.account.specs.declared.refusals.DraftRefusal.TheVariants.{Faulty}
 
 -- one place more: the cost of the composition that stands there is written
 pub filled_more :
@@ -49,20 +48,23 @@ pub fault_met : (f : Meaning) (counts : List ℕ) (p : ℕ) (fault : Fault) → 
 fault_met f counts p fault within faulty =
     record { at = at_place counts p; inside = at_place_inside counts p; stands = place_at_place counts p within; faulty = faulty }
 
--- the answer for one place that ends the filling
+-- and ends the filling
 pub fill_broken :
-    (f : Meaning) (counts : List ℕ) (p : ℕ) (before after : List ℤ) (e : DraftRefusal)
+    (f : Meaning) (counts : List ℕ) (p : ℕ) (before after : List ℤ) (fault : Fault)
     → p < size counts
     → FilledTo f counts p before after
-    → CostAt (f (at_place counts p)) p (Err e)
-    → FillEnds f counts before (Err e) after
-fill_broken f counts p before after NoHomes within filled met = met
-fill_broken f counts p before after TableTooShort within filled met = met
-fill_broken f counts p before after NumbersUsedUp within filled met = met
-fill_broken f counts p before after (Faulty q fault) within filled met = (
-  subst (λ (r : ℕ). FaultAt f counts r fault) (sym met.0) (fault_met f counts p fault within met.1),
-  subst (λ (r : ℕ). FilledTo f counts r before after) (sym met.0) filled,
-)
+    → f (at_place counts p) ≡ Err fault
+    → FillEnds f counts before (Err (Faulty p fault)) after
+fill_broken f counts p before after fault within filled faulty = (fault_met f counts p fault within faulty, filled)
+
+-- a table as it was taken is filled as far as the first place
+pub filled_none : (f : Meaning) (counts : List ℕ) (before after : List ℤ) → after ≡ before → FilledTo f counts 0 before after
+filled_none f counts before after same =
+    record {
+      costs = λ n inside below. absurd (omega (arith, below));
+      others = λ q beyond. ap (λ (xs : List ℤ). get_or xs q (pos 0)) same;
+      same_length = ap length same;
+    }
 
 -- in a table that is filled, the entry at a place is the cost of the composition there
 pub filled_at :

@@ -1,20 +1,27 @@
 -- What a home of a type is charged, on the way from its share to its line.
-use Rattle.std.specs.Prelude.{◌≡◌, ℕ, ◌<◌, ℤ, ◌-ℤ◌, Some, None, Option}
+use Rattle.std.specs.Prelude.{◌≡◌, ℕ, ◌<◌, List, ℤ, pos, ◌-ℤ◌, Some, None, Option, slice_index_or}
+use Rattle.composition.specs.Counts.{count}
+use Rattle.composition.specs.Types.{position}
+use Rattle.composition.specs.declared.demand_type.DemandType.{DemandType}
 use Rattle.rounding.specs.Rounding.{RoundedUp}
+use Rattle.shapley.specs.Shares.{share}
 use Rattle.account.specs.declared.draft.billing_homes.Charge.{Charge}
 
 -- the charge for a share, if there are homes, in pennies of so many parts
-abbrev pub ChargedAs : ℕ → ℤ → ℕ → Option ℤ → ℤ → Type 0
-ChargedAs homes share penny None pence = homes ≡ 0
-ChargedAs homes share penny (Some h) pence = (0 < homes) × (h ≡ share) × RoundedUp h penny pence
+abbrev pub Charged : ℕ → ℤ → ℕ → Option Charge → Type 0
+Charged homes share penny None = homes ≡ 0
+Charged homes share penny (Some charge) = (0 < homes) × (charge.share ≡ share) × RoundedUp charge.share penny charge.pence
 
-abbrev pub Charged : ℕ → ℤ → ℕ → Charge → Type 0
-Charged homes share penny c = ChargedAs homes share penny c.share c.pence
+-- the charges of all types, where compositions cost c
+abbrev pub ChargedByType : List ℕ → (List ℕ → ℤ) → ℕ → List (Option Charge) → Type 0
+ChargedByType counts c penny charges = (k : DemandType) → Charged (count (position k) counts) (share counts (position k) c) penny (slice_index_or charges (position k) None)
 
--- a line out of a share, its pence and the rebate
-abbrev pub lined_as : Option ℤ → ℤ → ℤ → Option (ℤ × ℤ)
-lined_as None pence rebate = None
-lined_as (Some h) pence rebate = Some (h, pence -ℤ rebate)
+-- the pence of a charge; a type without homes has none
+abbrev pub pence_of : Option Charge → ℤ
+pence_of None = pos 0
+pence_of (Some charge) = charge.pence
 
-abbrev pub lined : Charge → ℤ → Option (ℤ × ℤ)
-lined c rebate = lined_as c.share c.pence rebate
+-- a line out of a charge and the rebate
+abbrev pub lined : Option Charge → ℤ → Option (ℤ × ℤ)
+lined None rebate = None
+lined (Some charge) rebate = Some (charge.share, charge.pence -ℤ rebate)

@@ -19,14 +19,6 @@ pub record FaultAt (f : Meaning) (counts : List ℕ) (p : ℕ) (fault : Fault) :
   pub stands : place counts at ≡ p
   pub faulty : f at ≡ Err fault
 
--- the answer for one place: the cost there, or the fault with the place
-abbrev pub CostAt : Result ℤ Fault → ℕ → Result ℤ DraftRefusal → Type 0
-CostAt meant p (Ok cost) = meant ≡ Ok cost
-CostAt meant p (Err NoHomes) = ⊥
-CostAt meant p (Err TableTooShort) = ⊥
-CostAt meant p (Err NumbersUsedUp) = ⊥
-CostAt meant p (Err (Faulty q fault)) = (q ≡ p) × (meant ≡ Err fault)
-
 -- how filling a table ends: all of it filled, or as far as the lowest place with a fault
 abbrev pub FillEnds : Meaning → List ℕ → List ℤ → Result (Unit {0}) DraftRefusal → List ℤ → Type 0
 FillEnds f counts before (Ok done) after = FilledTo f counts (size counts) before after

@@ -1,15 +1,15 @@
 -- Every step of a battery within its limits keeps the balance of energy.
-use Rattle.std.proofs.Common.{◌≡◌, ℕ, ◌-◌, ◌*◌, ◌/◌, ◌≤◌, ap, inl, inr, ⊎_elim, mul-le-mul_left, arith}
+use Rattle.std.proofs.Common.{◌≡◌, ℕ, ◌-◌, ◌*◌, ◌≤◌, inl, inr, ⊎_elim, mul-le-mul_left, arith}
 use Rattle.std.proofs.lemmas.Bool.{cases_lt}
 use Rattle.battery.specs.Energy.{Balanced, CanPutIn, CanTakeOut, Greatest}
 use Rattle.battery.specs.Ratings.{Rated}
-use Rattle.battery.specs.Steps.{up, put_in, rise, taken_out, fall, after, imported, exported}
+use Rattle.battery.specs.Steps.{put_in, rise, taken_out, fall, after, imported, exported}
 use Rattle.battery.specs.declared.battery.Battery.{Battery}
 use Rattle.battery.specs.declared.rating.Rating.{Rating}
 use Rattle.battery.proofs.Quotients.{down_greatest, clipped, up_least}
 
 -- what a battery was written with
-pub rated : (b : Battery) → Rated b.rating
+rated : (b : Battery) → Rated b.rating
 rated b = record {
   ordered = b.ordered;
   small = b.small;
@@ -54,13 +54,6 @@ step_moves b n charge d g r =
       fall_lacking = drawn.least (100 * (d - g)) (omega (arith, comes_out.0, mul-le-mul_left (100 * (d - g)) r.discharges));
     }
 
--- the same from what the code has put in or taken out
-pub rise_by : (b : Rating) (n charge d g p : ℕ) → p ≡ put_in b n charge d g → p * b.charging / 100 ≡ rise b n charge d g
-rise_by b n charge d g p e = ap (λ (x : ℕ). x * b.charging / 100) e
-
-pub fall_by : (b : Rating) (n charge d g t : ℕ) → t ≡ taken_out b n charge d g → up (100 * t) b.discharging ≡ fall b n charge d g
-fall_by b n charge d g t e = ap (λ (x : ℕ). up (100 * x) b.discharging) e
-
 -- ---- the balance
 
 pub step_balanced : (b : Rating) (n charge d g : ℕ) → Rated b → Balanced b n charge d g (after b n charge d g) (imported b n charge d g) (exported b n charge d g)
@@ -81,16 +74,14 @@ step_balanced b n charge d g r =
       bounds = λ within. (omega (arith, within.0, moves.fall_held), omega (arith, within.1, moves.rise_fits));
     }
 
--- numbers that are the step's keep the balance too: what `step` has to show of its answer
-pub answered :
-    (b : Rating) (n before d g x y z : ℕ)
-    → Rated b
-    → x ≡ after b n before d g
-    → y ≡ imported b n before d g
-    → z ≡ exported b n before d g
-    → record { charge : x ≡ after b n before d g; import : y ≡ imported b n before d g; export : z ≡ exported b n before d g; law : Balanced b n before d g x y z }
-answered b n before d g x y z r ex ey ez =
-    record { charge = ex; import = ey; export = ez; law = rw (ex, ey, ez) (step_balanced b n before d g r) }
+-- and so do numbers that are the step's
+pub answer_balanced :
+    (b : Battery) (n charge d g x y z : ℕ)
+    → x ≡ after b.rating n charge d g
+    → y ≡ imported b.rating n charge d g
+    → z ≡ exported b.rating n charge d g
+    → Balanced b.rating n charge d g x y z
+answer_balanced b n charge d g x y z ex ey ez = rw (ex, ey, ez) (step_balanced b.rating n charge d g (rated b))
 
 -- without homes, charge, demand and generation nothing happens
 pub step_nobody : (b : Rating) → Rated b → (after b 0 0 0 0 ≡ 0) × (imported b 0 0 0 0 ≡ 0) × (exported b 0 0 0 0 ≡ 0)

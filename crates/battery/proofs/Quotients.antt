@@ -1,6 +1,6 @@
 -- Quotients, rounded down and up, as the greatest and the least number with a property.
-use Rattle.std.proofs.Common.{◌≡◌, ℕ, zero, suc, ◌+◌, ◌-◌, ◌*◌, ◌/◌, ◌%◌, ◌<◌, ◌≤◌, min, mul-le-mul_right, mod-lt, add-mul, div-add-mod', div-mul-le_self, arith}
-use native.Mathlib.Nat.{div-eq_of_lt-le, lt-div-mul-add}
+use Rattle.std.proofs.Common.{ℕ, ◌+◌, ◌-◌, ◌*◌, ◌/◌, ◌<◌, ◌≤◌, min, mul-le-mul_right, add-mul, div-mul-le_self, arith}
+use native.Mathlib.Nat.{lt-div-mul-add}
 use Rattle.std.proofs.lemmas.Nat.{div_below, le-div}
 use Rattle.battery.specs.Energy.{Greatest, Least}
 use Rattle.battery.specs.Steps.{up}
@@ -24,14 +24,3 @@ up_least a b p = record {
   has = omega (arith, lt-div-mul-add {a = a + (b - 1)} p);
   least = λ y reaches. omega (arith, div_below (a + (b - 1)) b (y + 1) p (omega (arith, add-mul y 1 b)));
 }
-
--- a quotient q with a remainder r, rounded up
-rounded_up : (a b q r : ℕ) → q * b + r ≡ a → r < b → q + min 1 r ≡ up a b
-rounded_up a b q zero e below =
-    let same : up a b ≡ q = div-eq_of_lt-le b (omega arith) (omega (arith, add-mul q 1 b)) in omega arith
-rounded_up a b q (suc r) e below =
-    let more : up a b ≡ q + 1 = div-eq_of_lt-le b (omega (arith, add-mul q 1 b)) (omega (arith, add-mul q 1 b, add-mul (q + 1) 1 b)) in omega arith
-
--- what `div_ceil` answers
-pub ceiling_is : (a b : ℕ) → 0 < b → a / b + min 1 (a % b) ≡ up a b
-ceiling_is a b p = rounded_up a b (a / b) (a % b) (div-add-mod' a b) (mod-lt a p)

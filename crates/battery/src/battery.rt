@@ -4,6 +4,8 @@ ghost use Rattle.battery.specs.Ratings.{most_charge, most_moved, whole};
 
 use crate::rating::Rating;
 
+mod group;
+mod moved;
 mod stepping;
 
 // Seven facts and not one, `Rated`: an invariant has to be seen to be a mere fact, and a record of definitions is not.

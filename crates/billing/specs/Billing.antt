@@ -1,8 +1,12 @@
 -- What one billing comes to. Money is in hundredths of a penny, unless a name says pence.
-use Rattle.std.specs.Prelude.{◌≡◌, ℕ, ◌*◌, List, ℤ, pos, ◌+ℤ◌, ◌-ℤ◌, ◌*ℤ◌}
-use Rattle.composition.specs.Amounts.{weighted}
+use Rattle.std.specs.Prelude.{◌≡◌, ℕ, ◌*◌, ◌^◌, List, ℤ, pos, ◌+ℤ◌, ◌-ℤ◌, ◌*ℤ◌}
+use Rattle.composition.specs.Amounts.{Between, weighted}
 use Rattle.composition.specs.Counts.{total}
 use Rattle.rounding.specs.Rounding.{RoundedDown}
+
+-- an amount so far below what 64 bits hold that a few more can be added to it
+abbrev pub Small : ℤ → Type 0
+Small z = Between (2 ^ 48) z
 
 -- what the whole-pence charges to homes with these counts bring in above the cost
 abbrev pub surplus : List ℕ → List ℤ → ℤ → ℤ

@@ -6,4 +6,4 @@ mod charges;
 mod settling;
 
 pub use charges::Charges;
-pub use settling::{Settlement, settle};
+pub use settling::Settlement;

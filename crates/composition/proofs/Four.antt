@@ -1,6 +1,6 @@
 -- Lists of four counts.
-use Rattle.std.proofs.Common.{◌≡◌, ℕ, zero, suc, ◌+◌, ◌*◌, ◌/◌, ◌%◌, ◌<◌, Bool, true, false, ◌&&◌, leb, List, [], ◌∷◌, length, get_or, refl, add-zero, mul-zero, mul-one, arith}
-use Rattle.composition.specs.Counts.{total, fits, size, place, at_place, step, Inside, nobody}
+use Rattle.std.proofs.Common.{◌≡◌, ℕ, zero, suc, ◌+◌, ◌*◌, ◌/◌, ◌%◌, ◌<◌, List, [], ◌∷◌, length, get_or, refl, add-zero, mul-zero, mul-one, arith}
+use Rattle.composition.specs.Counts.{total, size, place, at_place, step, Inside, nobody}
 use Rattle.composition.specs.Types.{position}
 use Rattle.composition.specs.declared.demand_type.DemandType.{DemandType}
 use Rattle.composition.specs.declared.demand_type.DemandType.TheVariants.{One, Two, Three, Four}
@@ -56,18 +56,6 @@ step_four One ms h = rw (split4 0 ms h)
 step_four Two ms h = rw (split4 0 ms h) (simp mul-one)
 step_four Three ms h = rw (split4 0 ms h) (simp mul-one)
 step_four Four ms h = rw (split4 0 ms h) (simp mul-one)
-
-pub fits_four :
-    (ns ms : List ℕ)
-    → length ns ≡ 4
-    → length ms ≡ 4
-    → fits ns ms
-    ≡ (leb (get_or ns 0 0) (get_or ms 0 0) && (leb (get_or ns 1 0) (get_or ms 1 0) && (leb (get_or ns 2 0) (get_or ms 2 0) && leb (get_or ns 3 0) (get_or ms 3 0))))
-fits_four ns ms h k = rw (split4 0 ns h, split4 0 ms k) (rw (and_true (leb (get_or ns 3 0) (get_or ms 3 0))))
-  where
-    and_true : (b : Bool) → (b && true) ≡ b
-    and_true true = refl
-    and_true false = refl
 
 -- nobody lies inside every group, at the first place
 pub nobody_inside : (ms : List ℕ) → length ms ≡ 4 → Inside nobody ms

@@ -1,5 +1,5 @@
 -- Places: every group inside another has one of its own, and every place below the size is some group's.
-use Rattle.std.proofs.Common.{◌≡◌, ℕ, zero, suc, ◌+◌, ◌*◌, ◌/◌, ◌%◌, ◌<◌, ◌≤◌, true, leb, List, [], ◌∷◌, length, refl, ap, mul_comm, mul-le-mul_left, mul-pos, mul-add, arith}
+use Rattle.std.proofs.Common.{◌≡◌, ℕ, zero, suc, ◌+◌, ◌*◌, ◌/◌, ◌%◌, ◌<◌, ◌≤◌, Bool, true, false, leb, List, [], ◌∷◌, length, slice_index, sym, refl, ap, mul_comm, mul-le-mul_left, mul-pos, mul-add, arith}
 use Rattle.std.proofs.lemmas.Nat.{mod_below, div_below, div-add-mod', div-mul-add, mod-mul-add}
 use Rattle.std.proofs.lemmas.Bool.{and_parts, and_from, leb-true, le-leb}
 use Rattle.composition.specs.Counts.{total, size, fits, place, at_place, step, Inside, count, raised, lowered}
@@ -108,3 +108,28 @@ inside_fits [] [] h = refl
 inside_fits [] (m ∷ ms) h = absurd h
 inside_fits (n ∷ ns) [] h = absurd h
 inside_fits (n ∷ ns) (m ∷ ms) h = and_from (leb n m) (fits ns ms) (le-leb n m h.0) (inside_fits ns ms h.1)
+
+-- so does any test of whether each count is within the other's
+pub within_inside : (ns ms : List ℕ) → length ns ≡ length ms → ((i : ℕ) → i < length ns → slice_index ns i ≤ slice_index ms i) → Inside ns ms
+within_inside [] [] e h = tt
+within_inside [] (m ∷ ms) e h = absurd (omega arith)
+within_inside (n ∷ ns) [] e h = absurd (omega arith)
+within_inside (n ∷ ns) (m ∷ ms) e h = (h 0 (omega arith), within_inside ns ms (omega arith) (λ i below. h (suc i) (omega arith)))
+
+pub inside_within : (ns ms : List ℕ) → Inside ns ms → (i : ℕ) → slice_index ns i ≤ slice_index ms i
+inside_within [] [] h i = omega arith
+inside_within [] (m ∷ ms) h i = absurd h
+inside_within (n ∷ ns) [] h i = absurd h
+inside_within (n ∷ ns) (m ∷ ms) h zero = h.0
+inside_within (n ∷ ns) (m ∷ ms) h (suc i) = inside_within ns ms h.1 i
+
+pub tests_fit :
+    (b : Bool) (ns ms : List ℕ)
+    → length ns ≡ length ms
+    → (b ≡ true → (i : ℕ) → i < length ns → slice_index ns i ≤ slice_index ms i)
+    → (((i : ℕ) → i < length ns → slice_index ns i ≤ slice_index ms i) → b ≡ true)
+    → b ≡ fits ns ms
+tests_fit true ns ms e all each = sym (inside_fits ns ms (within_inside ns ms e (all refl)))
+tests_fit false ns ms e all each =
+    let fitting : (b : Bool) → fits ns ms ≡ b → false ≡ b = elim [ true ↦ λ yes. each (λ i below. inside_within ns ms (fits_inside ns ms yes) i) | false ↦ λ no. refl ] in
+    fitting (fits ns ms) refl

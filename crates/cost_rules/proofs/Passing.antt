@@ -1,26 +1,20 @@
 -- What a sum knows of a cost that a part has passed on.
-use Rattle.std.proofs.Common.{◌≡◌, ℕ, ◌≤◌, List, length, ℤ, Ok, Err, Result, sym, ◌∙◌, arith, w64, to_z, of_z}
+use Rattle.std.proofs.Common.{◌≡◌, ℕ, ◌≤◌, List, length, ℤ, Ok, Result, sym, ◌∙◌, arith, w64, to_z, of_z}
 use Rattle.std.proofs.lemmas.Int.{ints}
 use Rattle.composition.specs.Counts.{total}
 use Rattle.cost_rules.specs.Limits.{Within}
 use Rattle.cost_rules.specs.Meanings.{Meaning, Limited}
-use Rattle.cost_rules.specs.Sums.{lifts}
 use Rattle.cost_rules.specs.declared.fault.Fault.{Fault}
 
--- a cost is passed on as it came
-lifts_ok : (r : Result ℤ Fault) (x : ℤ) → Ok x ≡ lifts r → r ≡ Ok x
-lifts_ok (Ok c) x e = sym e
-lifts_ok (Err f) x e = let z : ◌≡◌ {A = ℕ} 0 1 = cc in absurd (omega arith)
-
--- so it lies within the limits, as the sum reads it from 64 bits
+-- a part's cost lies within the limits, as the sum reads it from 64 bits
 pub passed_within :
     (f : Meaning) (n : List ℕ) (r : Result ℤ Fault) (x : ℤ)
     → Limited f
     → length n ≡ 4
     → total n ≤ 24
     → r ≡ f n
-    → Ok x ≡ lifts r
+    → r ≡ Ok x
     → Within (to_z w64 (of_z w64 x))
 passed_within f n r x limited four few answered passed =
-    let within : Within x = limited n four few x (sym answered ∙ lifts_ok r x passed) in
+    let within : Within x = limited n four few x (sym answered ∙ passed) in
     (omega (arith, ints, within.0, within.1), omega (arith, ints, within.0, within.1))

@@ -20,8 +20,3 @@ fee_of fees k = slice_index_or fees (position k) (pos 0)
 abbrev pub HeadMade : List ℤ → Result HeadRule FeeOutside → Type 0
 HeadMade fees (Ok rule) = rule.fees ≡ fees
 HeadMade fees (Err e) = (IsFee (fee_of fees e.of) → ⊥) × ((k : DemandType) → position k < position e.of → IsFee (fee_of fees k))
-
--- one fee is looked at: it is within its limits, or the refusal names its type
-abbrev pub Accepts : ℤ → DemandType → Result (Unit {0}) FeeOutside → Type 0
-Accepts fee k (Ok done) = IsFee fee
-Accepts fee k (Err e) = (e.of ≡ k) × (IsFee fee → ⊥)

@@ -14,8 +14,3 @@ both (Err f) b = Err (lifted f)
 -- what the sum of two rules means
 abbrev pub sum_of : Meaning → Meaning → Meaning
 sum_of f g n = both (f n) (g n)
-
--- a part's answer as the sum passes it on
-abbrev pub lifts : Result ℤ Fault → Result ℤ Fault
-lifts (Ok c) = Ok c
-lifts (Err f) = Err (lifted f)

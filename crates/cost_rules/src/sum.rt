@@ -3,7 +3,7 @@ ghost use Rattle.std.specs.Prelude.{◌≡◌, ◌+ℤ◌};
 ghost use Rattle.cost_rules.specs.Limits.{Within};
 ghost use Rattle.cost_rules.specs.Prices.{priced};
 ghost use Rattle.cost_rules.specs.Owed.{sum_free, sum_limited};
-ghost use Rattle.cost_rules.specs.Sums.{sum_of, lifts};
+ghost use Rattle.cost_rules.specs.Sums.{sum_of};
 
 use crate::cost_rule::CostRule;
 use crate::fault::Fault;
@@ -24,22 +24,9 @@ impl<A: CostRule, B: CostRule> CostRule for SumRule<A, B> {
     ghost limited = { λ s. sum_limited (A.CostRule.meaning s.left) (B.CostRule.meaning s.right) (A.CostRule.limited s.left) (B.CostRule.limited s.right) };
 
     fn cost(&self, of: &Composition) -> Result<i64, Fault> {
-        let left = lift(self.left.cost(of))?;
-        let right = lift(self.right.cost(of))?;
+        let left = self.left.cost(of).map_err(Fault::lifted)?;
+        let right = self.right.cost(of).map_err(Fault::lifted)?;
         add(left, right)
-    }
-}
-
-// A part's answer as the sum passes it on: a fault stands one rung higher.
-fn lift(part: Result<i64, Fault>) -> Result<i64, Fault>
-    ensures { result ≡ lifts part }
-{
-    match part {
-        Ok(cost) => Ok(cost),
-        Err(fault) => Err(Fault {
-            number: fault.number,
-            rung: fault.rung.saturating_add(1),
-        }),
     }
 }
 

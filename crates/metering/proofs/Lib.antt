@@ -1,4 +1,3 @@
-pub mod Tallying
 pub mod Walking
-pub mod Covering
 pub mod Promises
+pub mod Demanding

@@ -1,52 +1,50 @@
 -- The promises of the metered rules.
-use Rattle.std.proofs.Common.{◌≡◌, ℕ, zero, suc, ◌-◌, ◌*◌, ◌/◌, ◌<◌, ◌≤◌, max, ◌⊎◌, List, [], ◌∷◌, length, drop, ℤ, pos, ◌-ℤ◌, ◌≤ℤ◌, refl, ap, ◌∙◌, subst, inl, inr, arith}
+use Rattle.std.proofs.Common.{◌≡◌, ℕ, zero, suc, ◌-◌, ◌*◌, ◌/◌, ◌<◌, ◌≤◌, ◌⊎◌, List, [], ◌∷◌, length, true, false, ℤ, pos, refl, ap, ◌∙◌, subst, inl, inr, arith}
 use Rattle.std.proofs.lemmas.Nat.{mul-le}
+use Rattle.std.proofs.lemmas.Grind.{common_steps}
 use Rattle.std.proofs.lemmas.Int.{ints}
-use Rattle.std.proofs.lemmas.Bool.{cases_lt, eq-eqb, ne_eqb}
+use Rattle.std.proofs.lemmas.Bool.{cases_lt}
 use Rattle.battery.proofs.Balances.{step_balanced}
 use Rattle.battery.specs.Energy.{InBounds}
 use Rattle.battery.specs.Ratings.{Rated}
 use Rattle.battery.specs.declared.rating.Rating.{Rating}
-use Rattle.composition.specs.Counts.{total, count}
+use Rattle.composition.specs.Counts.{count}
 use Rattle.period.proofs.AcceptedPages.{accepted_writes, only_page}
-use Rattle.period.specs.Filled.{page}
 use Rattle.period.specs.InForce.{readings, no_tariffs}
 use Rattle.period.specs.Pages.{Page}
-use Rattle.period.specs.declared.period.Period.{Period}
+use Rattle.period.specs.Reader.{accepts, page_of}
 use Rattle.period.specs.declared.reading.Reading.{Reading}
 use Rattle.rounding.proofs.Euclid.{floor_is}
 use Rattle.rounding.specs.Rounding.{RoundedDown}
 use Rattle.metering.proofs.Walking.{as_many}
 use Rattle.metering.specs.Demands.{Group}
 use Rattle.metering.specs.Grid.{grid_sum, grid_cost}
-use Rattle.metering.specs.Metered.{metered}
-use Rattle.metering.specs.Peak.{peak, peak_cost, lacks, AtLeastAll, OneOfThem}
+use Rattle.metering.specs.Metered.{covers, metered}
+use Rattle.metering.specs.Peak.{peak, peak_cost, AtLeastAll, OneOfThem}
 use Rattle.metering.specs.Promise.{MeteredBy, Balances, OnWords, GridPromise, PeakPromise}
 use Rattle.metering.specs.Walks.{walked, start, charge_after, AllSound}
 use Rattle.metering.specs.declared.half_hour.HalfHour.{HalfHour}
 
 -- ---- readings for all homes, or for some not
 
-beyond_some : (k i : ℕ) (ns : List ℕ) → k ≤ i → 0 < count i ns → 0 < total (drop k ns)
+beyond_some : (k i : ℕ) (ns : List ℕ) → k ≤ i → 0 < count i ns → covers k ns ≡ false
 beyond_some k i [] within some = absurd (omega (arith, some))
-beyond_some zero zero (n ∷ ns) within some = omega (arith, some)
-beyond_some zero (suc i) (n ∷ ns) within some = omega (arith, beyond_some zero i ns (omega arith) some)
+beyond_some zero zero (n ∷ ns) within some = grind (arith, common_steps)
+beyond_some zero (suc i) (n ∷ ns) within some = let rest = beyond_some zero i ns (omega arith) some in grind (arith, common_steps)
 beyond_some (suc k) zero (n ∷ ns) within some = absurd (omega (arith, within))
 beyond_some (suc k) (suc i) (n ∷ ns) within some = beyond_some k i ns (omega (arith, within)) some
 
-beyond_none : (k : ℕ) (ns : List ℕ) → ((i : ℕ) → k ≤ i → count i ns ≡ 0) → total (drop k ns) ≡ 0
+beyond_none : (k : ℕ) (ns : List ℕ) → ((i : ℕ) → k ≤ i → count i ns ≡ 0) → covers k ns ≡ true
 beyond_none zero [] none = refl
-beyond_none zero (n ∷ ns) none =
-    omega (arith, none 0 (omega arith), beyond_none zero ns (λ i h. none (suc i) (omega arith)))
+beyond_none zero (n ∷ ns) none = let here = none 0 (omega arith) in let rest = beyond_none zero ns (λ i h. none (suc i) (omega arith)) in grind (arith, common_steps)
 beyond_none (suc k) [] none = refl
 beyond_none (suc k) (n ∷ ns) none = beyond_none k ns (λ i h. none (suc i) (omega (arith, h)))
 
 metered_by : (cost : List HalfHour → ℤ) (p : Page) → MeteredBy cost p (metered cost p)
 metered_by cost p =
     record {
-      without_readings =
-          λ n i beyond some. rw (ne_eqb (total (drop p.types n)) 0 (λ e. omega (arith, e, beyond_some p.types i n beyond some))) refl;
-      with_readings = λ n none. rw (eq-eqb (total (drop p.types n)) 0 (beyond_none p.types n none)) refl;
+      without_readings = λ n i beyond some. rw (beyond_some p.types i n beyond some) refl;
+      with_readings = λ n none. rw (beyond_none p.types n none) refl;
     }
 
 -- ---- walks
@@ -75,58 +73,46 @@ balances p rated =
       each_is_sound = λ g. all_sound p.rating g (start p.rating g) (readings p) rated (starts g);
     }
 
--- a period's words write its page down, and no other
-on_words : (cost : List HalfHour → ℤ) (p : Period) → OnWords cost p.words.now (metered cost (page p))
-on_words cost p =
-    let w = accepted_writes p.words.now p.accepted in
+-- accepted words write their page down, and no other
+on_words : (cost : List HalfHour → ℤ) (ws : List ℕ) → accepts ws ≡ true → OnWords cost ws (metered cost (page_of ws))
+on_words cost ws ok =
+    let w = accepted_writes ws ok in
     record {
-      a_page = (page p, w);
-      metered_by_each = λ q writes. subst (λ r. MeteredBy cost r (metered cost (page p))) (only_page p.words.now q writes) (metered_by cost (page p));
+      a_page = (page_of ws, w);
+      metered_by_each = λ q writes. subst (λ r. MeteredBy cost r (metered cost (page_of ws))) (only_page ws q writes) (metered_by cost (page_of ws));
       walks_balance = λ q writes. balances q writes.within.rated;
     }
 
 -- ---- the grid rule
 
-pub grid_promise : (p : Period) → GridPromise p.words.now (metered grid_cost (page p))
-grid_promise p = record { on_words = on_words grid_cost p; divided_once = λ hs. floor_is (grid_sum hs) 1000 (omega arith) }
+pub grid_promise : (ws : List ℕ) → accepts ws ≡ true → GridPromise ws (metered grid_cost (page_of ws))
+grid_promise ws ok = record { on_words = on_words grid_cost ws ok; divided_once = λ hs. floor_is (grid_sum hs) 1000 (omega arith) }
 
 -- ---- the peak rule
 
 still_at_least : (p q : ℕ) (hs : List HalfHour) → p ≤ q → AtLeastAll p hs → AtLeastAll q hs
 still_at_least p q [] less all = tt
-still_at_least p q (h ∷ hs) less all = (higher (lacks h) all.0, still_at_least p q hs less all.1)
-  where
-    higher : (z : ℤ) → z ≤ℤ pos p → z ≤ℤ pos q
-    higher z e = omega (arith, ints, less)
+still_at_least p q (h ∷ hs) less all = (omega (arith, ints, all.0), still_at_least p q hs less all.1)
 
 at_least_all : (hs : List HalfHour) → AtLeastAll (peak hs) hs
 at_least_all [] = tt
-at_least_all (h ∷ hs) = (this h.demand h.generation (peak hs), still_at_least (peak hs) (peak (h ∷ hs)) hs (omega arith) (at_least_all hs))
-  where
-    this : (d g q : ℕ) → (pos d -ℤ pos g) ≤ℤ pos (max (d - g) q)
-    this d g q = omega (arith, ints)
+at_least_all (h ∷ hs) = (omega (arith, ints), still_at_least (peak hs) (peak (h ∷ hs)) hs (omega arith) (at_least_all hs))
 
 one_of_them : (hs : List HalfHour) → OneOfThem (peak hs) hs
 one_of_them [] = refl
 one_of_them (h ∷ hs) = go (cases_lt (peak hs) (h.demand - h.generation)) (one_of_them hs)
   where
-    this : (d g q : ℕ) → q < d - g → pos (max (d - g) q) ≡ pos d -ℤ pos g
-    this d g q e = omega (arith, ints, e)
-
-    that : (x q : ℕ) → x ≤ q → q ≡ max x q
-    that x q e = omega (arith, e)
-
     go : (peak hs < h.demand - h.generation) ⊎ (h.demand - h.generation ≤ peak hs) → OneOfThem (peak hs) hs → OneOfThem (peak (h ∷ hs)) (h ∷ hs)
-    go (inl more) before = inl (this h.demand h.generation (peak hs) more)
-    go (inr less) before = inr (subst (λ p. OneOfThem p hs) (that (h.demand - h.generation) (peak hs) less) before)
+    go (inl more) before = inl (omega (arith, ints))
+    go (inr less) before = inr (let same : peak hs ≡ peak (h ∷ hs) = omega arith in subst (λ p. OneOfThem p hs) same before)
 
 rounded : (m : ℕ) → RoundedDown (pos m) 1000 (pos (m / 1000))
 rounded m = record { within = omega (arith, ints); beyond = omega (arith, ints) }
 
-pub peak_promise : (p : Period) (price : ℕ) → PeakPromise p.words.now price (metered (peak_cost price) (page p))
-peak_promise p price =
+pub peak_promise : (ws : List ℕ) (price : ℕ) → accepts ws ≡ true → PeakPromise ws price (metered (peak_cost price) (page_of ws))
+peak_promise ws price ok =
     record {
-      on_words = on_words (peak_cost price) p;
+      on_words = on_words (peak_cost price) ws ok;
       no_half_hour_lacks_more = at_least_all;
       some_half_hour_lacks_it = one_of_them;
       rounded_down = λ hs. rounded (2 * peak hs * price);

@@ -1,12 +1,11 @@
 -- What a group of homes demands.
-use Rattle.std.specs.Prelude.{ℕ, ◌+◌, ◌*◌, List, [], ◌∷◌}
+use Rattle.std.specs.Prelude.{ℕ, ◌*◌, List, sum_by}
+use Rattle.std.specs.List.{zip}
 use Rattle.composition.specs.Counts.{total}
 
 -- all homes together, where a home of each type has its demand
 abbrev pub demand_of : List ℕ → List ℕ → ℕ
-demand_of [] ds = 0
-demand_of (n ∷ ns) [] = 0
-demand_of (n ∷ ns) (d ∷ ds) = n * d + demand_of ns ds
+demand_of counts each = sum_by (λ p. p.0 * p.1) (zip counts each)
 
 -- a group as a walk sees it: how many homes' part of turbine and battery it has, and how its demand is made of that of one home of each type
 pub record Group : Type 0 where

@@ -8,6 +8,5 @@ pub mod Owed
 pub mod Peak
 pub mod Promise
 pub mod Refusals
-pub mod Rules
 pub mod Tallies
 pub mod Walks

@@ -1,8 +1,9 @@
 -- How large a half-hour can be, so that tallies do not overflow, and what a tally amounts to on its way.
-use Rattle.std.specs.Prelude.{ℕ, ◌+◌, ◌*◌, ◌/◌, ◌^◌, ◌<◌, ◌≤◌, max, List, ℤ, pos, ◌+ℤ◌, ◌-ℤ◌, slice_index}
+use Rattle.std.specs.Prelude.{◌≡◌, ℕ, ◌+◌, ◌*◌, ◌/◌, ◌^◌, ◌<◌, ◌≤◌, max, List, [], ◌∷◌, All, ℤ, pos, ◌+ℤ◌, ◌-ℤ◌}
 use Rattle.std.specs.Int.{int_div_euclid}
 use Rattle.composition.specs.Counts.{most}
 use Rattle.period.specs.Limits.{most_value}
+use Rattle.period.specs.declared.reading.Reading.{Reading}
 use Rattle.metering.specs.Grid.{grid_sum}
 use Rattle.metering.specs.Peak.{peak}
 use Rattle.metering.specs.declared.half_hour.HalfHour.{HalfHour}
@@ -13,7 +14,14 @@ most_energy = most * most_value
 
 -- the demands of one home of each type, as a period gives them
 abbrev pub DemandsSmall : List ℕ → Type 0
-DemandsSmall ds = (i : ℕ) → slice_index ds i ≤ most_value
+DemandsSmall = All (λ d. d ≤ most_value)
+
+-- a half-hour of a period
+pub record ReadingSmall (r : Reading) : Type 0 where
+  pub demands_small : DemandsSmall r.demands
+  pub generation_small : r.generation ≤ most_value
+  pub import_small : r.tariffs.import ≤ most_value
+  pub export_small : r.tariffs.export ≤ most_value
 
 -- a half-hour of a walk
 pub record Small (h : HalfHour) : Type 0 where
@@ -39,3 +47,17 @@ grid_over paid earned hs = int_div_euclid ((pos paid -ℤ pos earned) +ℤ grid_
 -- the peak's cost, where so much was lacking before
 abbrev pub peak_over : ℕ → ℕ → List HalfHour → ℤ
 peak_over price before hs = pos (2 * max before (peak hs) * price / 1000)
+
+-- ---- where nothing moves
+
+-- nothing is demanded, generated, imported or exported in a half-hour
+pub record Still (h : HalfHour) : Type 0 where
+  pub demand_none : h.demand ≡ 0
+  pub generation_none : h.generation ≡ 0
+  pub import_none : h.import ≡ 0
+  pub export_none : h.export ≡ 0
+
+-- nor in any of these
+abbrev pub Idle : List HalfHour → Type 0
+Idle [] = Unit {0}
+Idle (h ∷ hs) = Still h × Idle hs

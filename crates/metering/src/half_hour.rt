@@ -2,7 +2,7 @@
 use period::Tariffs;
 
 #[derive(Clone, Copy)]
-pub(crate) struct HalfHour {
+pub struct HalfHour {
     pub demand: u32,
     pub generation: u32,
     // what the grid gives and takes, after the battery

@@ -4,13 +4,12 @@
 mod grid_rule;
 mod grid_tally;
 mod half_hour;
-mod metered;
+mod metered_rule;
 mod peak_rule;
 mod peak_tally;
 mod price;
 mod refusals;
 mod tally;
-mod walk;
 
 pub use grid_rule::GridRule;
 pub use peak_rule::PeakRule;

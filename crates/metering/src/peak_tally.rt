@@ -1,4 +1,5 @@
-// The tally of the highest half-half.
+// The tally of the highest half-hour, which is paid for at a price.
+ghost use Rattle.metering.specs.Owed.{idle_peak_cost};
 ghost use Rattle.metering.specs.Peak.{peak_cost};
 ghost use Rattle.metering.specs.Tallies.{peak_over};
 
@@ -7,30 +8,31 @@ use crate::price::Price;
 use crate::tally::Tally;
 
 #[derive(Clone, Copy)]
-pub(crate) struct PeakTally {
-    price: Price,
-    // the most that was lacking in a half-hour, before the battery
-    peak: u32,
+pub struct PeakTally {
+    pub(crate) price: Price,
 }
 
 impl Tally for PeakTally {
-    type Terms = Price;
+    // The most that was lacking in a half-hour, before the battery.
+    type SoFar = u32;
 
-    ghost meaning = { λ price. peak_cost price.value };
+    ghost meaning = { λ t. peak_cost t.price.value };
 
-    ghost over = { λ t. peak_over t.price.value t.peak };
+    ghost over = { λ t. peak_over t.price.value };
 
     ghost room = { λ _ _. Unit {0} };
 
-    fn start(price: Price) -> PeakTally {
-        PeakTally { price, peak: 0 }
+    ghost free = { λ t. idle_peak_cost t.price.value };
+
+    fn start(self) -> u32 {
+        0
     }
 
-    fn take(&mut self, half: &HalfHour) {
-        self.peak = self.peak.max(half.demand.saturating_sub(half.generation));
+    fn take(self, peak: u32, half: &HalfHour) -> u32 {
+        peak.max(half.demand.saturating_sub(half.generation))
     }
 
-    fn cost(self) -> i64 {
-        (2 * self.peak as u64 * self.price.value as u64 / 1000) as i64
+    fn cost(self, peak: u32) -> i64 {
+        (2 * u64::from(peak) * u64::from(self.price.value) / 1000) as i64
     }
 }

@@ -5,7 +5,7 @@ ghost use Rattle.metering.specs.Limits.{most_price};
 mod making;
 
 #[derive(Clone, Copy)]
-pub(crate) struct Price {
+pub struct Price {
     pub(crate) value: u32,
     ghost small: { value ≤ most_price },
 }

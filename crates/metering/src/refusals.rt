@@ -1,15 +1,16 @@
 // Why a rule is not filled, and under which number.
-ghost use Rattle.std.specs.Prelude.{◌≡◌};
 ghost use Rattle.metering.specs.Refusals.{price_outside};
 
+use refusal::Refusal;
+
 // The price lies outside 0 to 1,000,000.
-#[derive(Clone, Copy)]
+#[derive(Clone, Copy, Debug, PartialEq, Eq)]
 pub struct PriceOutside;
 
-impl PriceOutside {
-    pub fn number(self) -> u8
-        ensures { result ≡ price_outside }
-    {
+impl Refusal for PriceOutside {
+    ghost known_by = { λ _. price_outside };
+
+    fn number(self) -> u8 {
         42
     }
 }

@@ -1,35 +1,39 @@
 // What is added up over the half-hours of a walk.
-ghost use Rattle.std.specs.Prelude.{◌≡◌, ℕ, suc, ◌≤◌, List, [], ◌∷◌, ℤ};
-ghost use Rattle.metering.specs.Tallies.{Small};
+ghost use Rattle.std.specs.Prelude.{◌≡◌, ℕ, suc, ◌≤◌, List, [], ◌∷◌, ℤ, pos};
+ghost use Rattle.metering.specs.Tallies.{Idle, Small};
 ghost use Rattle.period.specs.Limits.{most_half_hours};
 ghost use Rattle.metering.specs.declared.half_hour.HalfHour.{HalfHour as Half};
 
 use crate::half_hour::HalfHour;
 
-pub(crate) trait Tally: Sized {
-    // What the rule fixes beforehand.
-    type Terms: Copy;
+// A tally is what a rule fixes beforehand. What it keeps of a walk is a value apart, and not its own type's terms: a rule that held such terms could not be copied.
+pub trait Tally: Copy {
+    // What is kept of the half-hours that were taken so far.
+    type SoFar: Copy;
 
     // What all half-hours of a walk cost.
-    ghost meaning: { Self.Terms → List Half → ℤ };
+    ghost meaning: { Self → List Half → ℤ };
+
+    // Half-hours in which nothing moves cost nothing. It stands above the functions, since what a rule owes can name nothing that stands below them.
+    ghost free: { (tally : Self) (halves : List Half) → Idle halves → meaning tally halves ≡ pos 0 };
 
     // What these half-hours cost together with those that were taken.
-    ghost over: { Self → List Half → ℤ };
+    ghost over: { Self → Self.SoFar → List Half → ℤ };
 
     // There is room for so many half-hours more.
-    ghost room: { Self → ℕ → Type 0 };
+    ghost room: { Self.SoFar → ℕ → Type 0 };
 
-    fn start(terms: Self::Terms) -> Self
-        ensures empty { (halves : List Half) → over result halves ≡ meaning terms halves }
+    fn start(self) -> Self::SoFar
+        ensures empty { (halves : List Half) → over self result halves ≡ meaning self halves }
         ensures room { (n : ℕ) → n ≤ most_half_hours → room result n };
 
-    fn take(&mut self, half: &HalfHour)
+    fn take(self, so_far: Self::SoFar, half: &HalfHour) -> Self::SoFar
         requires small { Small half.now }
-        requires spare { (n : ℕ) × room self.old (suc n) }
-        ensures taken { (halves : List Half) → over self.new halves ≡ over self.old (half.now ∷ halves) }
-        ensures less { (n : ℕ) → room self.old (suc n) → room self.new n };
+        requires spare { (n : ℕ) × room so_far (suc n) }
+        ensures taken { (halves : List Half) → over self result halves ≡ over self so_far (half.now ∷ halves) }
+        ensures less { (n : ℕ) → room so_far (suc n) → room result n };
 
-    fn cost(self) -> i64
-        requires { room self 0 }
-        ensures { result ≡ over self [] };
+    fn cost(self, so_far: Self::SoFar) -> i64
+        requires { room so_far 0 }
+        ensures { result ≡ over self so_far [] };
 }

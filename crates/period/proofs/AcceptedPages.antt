@@ -1,13 +1,16 @@
 -- The page of an accepted period, and what its first words are.
-use Rattle.std.proofs.Common.{◌≡◌, ℕ, ◌%◌, ◌≤◌, true, List, [], ◌∷◌, length, get_or, drop, is_ok, Ok, Err, Result, refl, ap, ◌∙◌, arith}
+use Rattle.std.proofs.Common.{◌≡◌, ℕ, ◌+◌, ◌≤◌, true, List, [], ◌∷◌, length, get_or, drop, is_ok, Ok, Err, Result, refl, ap, ◌∙◌, arith}
 use Rattle.period.proofs.Completeness.{read_written}
 use Rattle.period.proofs.Soundness.{written_read}
 use Rattle.period.proofs.PagesRead.{entries_read}
+use Rattle.period.specs.Labels.{field_number, field_in}
+use Rattle.period.specs.declared.kinds.Field.{Field}
+use Rattle.period.specs.declared.kinds.Field.TheVariants.{Lowest, Highest, Most, Charging, Discharging}
 use Rattle.period.specs.InForce.{readings, no_tariffs}
 use Rattle.period.specs.Pages.{Page, WithinLimits, Writes, body, written}
 use Rattle.period.specs.Reader.{read, accepts, page_or, page_of}
 use Rattle.period.specs.Unread.{unread}
-use Rattle.period.specs.Words.{value_of, word, closing_kind}
+use Rattle.period.specs.Words.{value_of, field_value_of, word, closing_kind}
 use Rattle.period.specs.declared.refusals.PeriodRefusal.{PeriodRefusal}
 
 -- accepted words write their page down
@@ -16,7 +19,7 @@ accepted_writes ws ok = go (read ws) refl ok
   where
     go : (r : Result Page PeriodRefusal) → read ws ≡ r → is_ok r ≡ true → Writes (page_or r) ws
     go (Ok p) e taken = written_read p ws e
-    go (Err x) e taken = let z : ◌≡◌ {A = ℕ} 0 1 = cc in absurd (omega arith)
+    go (Err x) e taken = cc
 
 -- and no other
 pub only_page : (ws : List ℕ) (p : Page) → Writes p ws → page_of ws ≡ p
@@ -30,11 +33,7 @@ pub record Begins (p : Page) (ws : List ℕ) : Type 0 where
   pub long : 7 ≤ length ws
   pub half_hours : value_of (get_or ws 0 0) ≡ length p.entries
   pub types : value_of (get_or ws 1 0) ≡ p.types
-  pub lowest : get_or ws 2 0 % 16777216 ≡ p.rating.lowest
-  pub highest : get_or ws 3 0 % 16777216 ≡ p.rating.highest
-  pub most : get_or ws 4 0 % 16777216 ≡ p.rating.most
-  pub charging : get_or ws 5 0 % 16777216 ≡ p.rating.charging
-  pub discharging : get_or ws 6 0 % 16777216 ≡ p.rating.discharging
+  pub rating : (f : Field) (i : ℕ) → i ≡ field_number f → field_value_of (get_or ws (2 + i) 0) ≡ field_in f p.rating
   pub readings : unread (length p.entries) p.types no_tariffs (drop 7 ws) ≡ readings p
 
 pub begins : (ws : List ℕ) → accepts ws ≡ true → Begins (page_of ws) ws
@@ -44,16 +43,20 @@ begins ws ok = go (page_of ws) (accepted_writes ws ok)
     go p w =
         let l = w.within in
         let at : (i : ℕ) → get_or ws i 0 ≡ get_or (written p) i 0 = λ i. ap (λ vs. get_or vs i 0) w.as_written in
+        let told : (f : Field) → field_value_of (get_or ws (2 + field_number f) 0) ≡ field_in f p.rating =
+        λ f. elim f as (λ f. field_value_of (get_or ws (2 + field_number f) 0) ≡ field_in f p.rating) [
+          | Lowest ↦ omega (arith, at 2, l.rated.ordered, l.rated.small)
+          | Highest ↦ omega (arith, at 3, l.rated.small)
+          | Most ↦ omega (arith, at 4, l.rated.slow)
+          | Charging ↦ omega (arith, at 5, l.rated.stores)
+          | Discharging ↦ omega (arith, at 6, l.rated.yields)
+        ] in
         record {
           within = l;
           long = omega (arith, ap length w.as_written);
           half_hours = omega (arith, at 0, l.few_half_hours);
           types = omega (arith, at 1, l.few_types);
-          lowest = omega (arith, at 2, l.rated.ordered, l.rated.small);
-          highest = omega (arith, at 3, l.rated.small);
-          most = omega (arith, at 4, l.rated.slow);
-          charging = omega (arith, at 5, l.rated.stores);
-          discharging = omega (arith, at 6, l.rated.yields);
+          rating = λ f i e. rw e (told f);
           readings = ap (λ vs. unread (length p.entries) p.types no_tariffs (drop 7 vs)) w.as_written
               ∙ entries_read p.types no_tariffs p.entries (word closing_kind (length (body p)) ∷ []) l.entries_within;
         }

@@ -1,5 +1,6 @@
 -- A refusal names the first offending word, and the part that it belongs to.
-use Rattle.std.proofs.Common.{◌≡◌, ℕ, ◌+◌, eqb, ◌⊎◌, List, [], ◌∷◌, ◌++◌, length, take, drop, Ok, Err, sym, refl, ap, ◌∙◌, subst, inl, inr, append_assoc, zero-add, add-one, arith, length-append, take-append-drop}
+use Rattle.std.proofs.Common.{◌≡◌, ℕ, ◌+◌, eqb, ◌⊎◌, List, [], ◌∷◌, ◌++◌, length, take, drop, Ok, Err, sym, refl, ap, ◌∙◌, subst, inl, inr, append_assoc, zero-add, add-one, length-append, take-append-drop}
+use Rattle.std.proofs.Math.Seq.{take-append_seam}
 use Rattle.std.proofs.lemmas.Bool.{cond-true, cond-false, cases_Bool, eqb-true}
 use Rattle.period.proofs.Completeness.{read_body, read_written}
 use Rattle.period.proofs.Honest.{Offends, period_honest}
@@ -42,7 +43,7 @@ at_place ws place e h =
 
 behind :
     (p : Page) (ws : List ℕ) (place : ℕ) (e : PeriodRefusal) → end p ws (place + 1) ≡ Err e → ClosingOffence (word closing_kind place ∷ ws) place e
-behind p [] place e h = let z : ◌≡◌ {A = ℕ} 0 1 = cc in absurd (omega arith)
+behind p [] place e h = cc
 behind p (w ∷ ws) place e h =
     let k = same_refusal Closing (place + 1) e h in
     record { closing = ap (λ (x : PeriodRefusal). x.part) k; where_it_stands = inr (ap (λ (x : PeriodRefusal). x.place) k, (w ∷ ws, refl)) }
@@ -56,10 +57,6 @@ close_refuses p (w ∷ ws) place e h =
       | inr t ↦ at_place (w ∷ ws) place e (sym (cond-false (eqb w (word closing_kind place)) (end p ws (place + 1)) (offends Closing place) t) ∙ h)
     ]
 
-take_front : (front rest : List ℕ) → take (length front) (front ++ rest) ≡ front
-take_front [] rest = refl
-take_front (x ∷ front) rest = ap {B = List ℕ} (λ r. x ∷ r) (take_front front rest)
-
 -- after the body of a page an offence comes when the page is complete
 complete_before :
     (p : Page) (rest : List ℕ) (e : PeriodRefusal) → WithinLimits p → ClosingOffence rest (length (body p)) e → Complete (take e.place (body p ++ rest))
@@ -71,7 +68,7 @@ complete_before p rest e h c = by_place c.where_it_stands
     by_place :
         (e.place ≡ length (body p)) ⊎ ((e.place ≡ length (body p) + 1) × ((more : List ℕ) × (rest ≡ word closing_kind (length (body p)) ∷ more)))
         → Complete (take e.place (body p ++ rest))
-    by_place (inl k) = (p, h, inl (ap (λ (n : ℕ). take n (body p ++ rest)) k ∙ take_front (body p) rest))
+    by_place (inl k) = (p, h, inl (ap (λ (n : ℕ). take n (body p ++ rest)) k ∙ take-append_seam (body p) rest))
     by_place (inr (k, (more, f))) = (
       p,
       h,
@@ -81,7 +78,7 @@ complete_before p rest e h c = by_place c.where_it_stands
             ap (λ (n : ℕ). take n (body p ++ rest)) (k ∙ sym (length-append (body p) last))
             ∙ ap (λ (x : List ℕ). take (length (written p)) (body p ++ x)) f
             ∙ ap (take (length (written p))) (sym (append_assoc (body p) last more))
-            ∙ take_front (written p) more;
+            ∙ take-append_seam (written p) more;
       }),
     )
 
@@ -93,7 +90,7 @@ never_in_half_hour ws place h (p, l, either) = by_words either
     closing rest f =
         let c = close_refuses p rest (length (body p)) (record { part = HalfHour; place = place }) (sym (read_body p l rest) ∙ ap read (sym f) ∙ h) in
         let g : HalfHour ≡ Closing = c.closing in
-        let z : ◌≡◌ {A = ℕ} 0 1 = cc in omega arith
+        cc
 
     by_words : (take place ws ≡ body p) ⊎ Writes p (take place ws) → ⊥
     by_words (inl f) = closing (drop place ws) (sym (take-append-drop place ws) ∙ ap (λ (x : List ℕ). x ++ drop place ws) f)
@@ -129,7 +126,7 @@ belongs ws e h =
 
 -- words that are refused write no page down
 none_written : (ws : List ℕ) (e : PeriodRefusal) → read ws ≡ Err e → (p : Page) → Writes p ws → ⊥
-none_written ws e h p w = let f : Ok p ≡ Err e = sym (read_written p ws w) ∙ h in let z : ◌≡◌ {A = ℕ} 0 1 = cc in omega arith
+none_written ws e h p w = let f : Ok p ≡ Err e = sym (read_written p ws w) ∙ h in cc
 
 -- what is refused is refused at its first offending word, under the part that this word belongs to
 pub refused : (ws : List ℕ) (e : PeriodRefusal) → read ws ≡ Err e → Refused ws e

@@ -30,7 +30,7 @@ offence_place : (part : Part) (start : ℕ) (e : PeriodRefusal) → offends part
 offence_place part start e h = let k : record { part = part; place = start } ≡ e = cc in ap (λ (x : PeriodRefusal). x.place) (sym k)
 
 no_page : (r : Result Page PeriodRefusal) (e : PeriodRefusal) (p : Page) → r ≡ Err e → r ≡ Ok p → ⊥
-no_page r e p h k = let z : ◌≡◌ {A = ℕ} 0 1 = cc in omega arith
+no_page r e p h k = cc
 
 -- a word is missing
 missing :

@@ -1,24 +1,18 @@
 -- How what is read along adds up.
-use Rattle.std.proofs.Common.{◌≡◌, ℕ, suc, ◌+◌, ◌-◌, ◌<◌, ◌≤◌, Bool, true, false, List, [], ◌∷◌, Option, refl, ◌∙◌, subst, arith}
-use Rattle.period.specs.Along.{from, may_or_must, Hands, Refuses}
-use Rattle.period.specs.Limits.{most_value}
-use Rattle.period.specs.Reader.{Reader, times, tariff}
+use Rattle.std.proofs.Common.{◌≡◌, ℕ, suc, ◌+◌, ◌-◌, ◌<◌, ◌≤◌, List, [], ◌∷◌, Ok, Err, Result, refl, ◌∙◌, subst, arith}
+use Rattle.period.specs.Along.{from, Hands, Refuses, Passes}
+use Rattle.period.specs.Reader.{Reader, times}
 use Rattle.period.specs.declared.cursor.Cursor.{Cursor}
-use Rattle.period.specs.declared.label.Label.TheVariants.{Kind}
-use Rattle.period.specs.declared.refusals.Part.TheVariants.{HalfHour}
 use Rattle.period.specs.declared.refusals.PeriodRefusal.{PeriodRefusal}
-use Rattle.period.specs.declared.slot.Slot.{Slot}
 
--- the slot of a word of a half-hour
-abbrev pub half_hour_slot : ℕ → Slot
-half_hour_slot kind = record { part = HalfHour; label = Kind kind; least = 0; most = most_value }
-
--- a tariff is a word that must or may stand there
-pub tariff_along :
-    (first : Bool) (kind : ℕ) (next : Option ℕ → Reader) (ws : List ℕ) (place : ℕ)
-    → tariff first kind next ws place ≡ may_or_must first (half_hour_slot kind) next ws place
-tariff_along true kind next ws place = refl
-tariff_along false kind next ws place = refl
+-- what is read last answers for all of which it is the last part
+pub last_answers :
+    {A B : Type 0} (last : (A → Reader) → Reader) (all : (B → Reader) → Reader) (whole : A → B) (old at new : Cursor) (r : Result (Unit {0}) PeriodRefusal)
+    → ((next : B → Reader) → from (all next) old ≡ from (last (λ v. next (whole v))) at)
+    → Passes last at r new
+    → Passes all old r new
+last_answers last all whole old at new (Ok done) reached passes = (whole passes.0, λ next. reached next ∙ passes.1 (λ v. next (whole v)))
+last_answers last all whole old at new (Err e) reached refuses = λ next. reached next ∙ refuses (λ v. next (whole v))
 
 -- of so many in a row some were read, and so many are left: what was read stands before what is read still
 abbrev pub SoFar : {A : Type 0} → ((A → Reader) → Reader) → ℕ → Cursor → ℕ → Cursor → Type 0

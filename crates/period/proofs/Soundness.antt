@@ -1,5 +1,5 @@
 -- Words that are read as a page write that page.
-use Rattle.std.proofs.Common.{◌≡◌, ℕ, ◌+◌, eqb, List, [], ◌∷◌, ◌++◌, length, Ok, sym, refl, ap, ◌∙◌, subst, inl, inr, zero-add, arith}
+use Rattle.std.proofs.Common.{◌≡◌, ℕ, ◌+◌, eqb, List, [], ◌∷◌, ◌++◌, length, Ok, sym, refl, ap, ◌∙◌, subst, inl, inr, zero-add}
 use Rattle.std.proofs.lemmas.Bool.{cond-true, cond-false, cases_Bool, eqb-true}
 use Rattle.period.proofs.Taken.{Taken}
 use Rattle.period.proofs.WholePages.{page_takes}
@@ -9,14 +9,14 @@ use Rattle.period.specs.Words.{word, closing_kind}
 
 pub end_inverts : (p q : Page) (ws : List ℕ) (place : ℕ) → end p ws place ≡ Ok q → (ws ≡ []) × (p ≡ q)
 end_inverts p q [] place e = (refl, cc)
-end_inverts p q (w ∷ ws) place e = let z : ◌≡◌ {A = ℕ} 0 1 = cc in absurd (omega arith)
+end_inverts p q (w ∷ ws) place e = cc
 
 pub close_inverts : (p q : Page) (ws : List ℕ) (place : ℕ) → close p ws place ≡ Ok q → (ws ≡ word closing_kind place ∷ []) × (p ≡ q)
-close_inverts p q [] place e = let z : ◌≡◌ {A = ℕ} 0 1 = cc in absurd (omega arith)
+close_inverts p q [] place e = cc
 close_inverts p q (w ∷ ws) place e =
     elim (cases_Bool (eqb w (word closing_kind place))) [
       | inl t ↦ let h = end_inverts p q ws (place + 1) (sym (cond-true (eqb w (word closing_kind place)) _ _ t) ∙ e) in (cc (eqb-true w (word closing_kind place) t), h.1)
-      | inr t ↦ let f = sym (cond-false (eqb w (word closing_kind place)) (end p ws (place + 1)) (offends _ place) t) ∙ e in let z : ◌≡◌ {A = ℕ} 0 1 = cc in absurd (omega arith)
+      | inr t ↦ let f = sym (cond-false (eqb w (word closing_kind place)) (end p ws (place + 1)) (offends _ place) t) ∙ e in cc
     ]
 
 -- what is read as a page writes that page
@@ -24,7 +24,7 @@ pub written_read : (p : Page) (ws : List ℕ) → read ws ≡ Ok p → Writes p 
 written_read p ws e =
     elim (page_takes.way close ws 0) [
       | inl t ↦ taken t
-      | inr s ↦ let f = sym s.offence ∙ e in let z : ◌≡◌ {A = ℕ} 0 1 = cc in absurd (omega arith)
+      | inr s ↦ let f = sym s.offence ∙ e in cc
     ]
   where
     taken : Taken body WithinLimits close ws 0 (read ws) → Writes p ws

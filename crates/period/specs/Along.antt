@@ -1,9 +1,10 @@
 -- How the functions of the check read along with the reader: what is left to read, at the cursor, gives the whole. Only contracts inside the
 -- crate cite this.
-use Rattle.std.specs.Prelude.{◌≡◌, ℕ, ◌≤◌, Bool, true, false, List, Some, None, Ok, Err, Option, Result}
+use Rattle.std.specs.Prelude.{◌≡◌, ℕ, ◌+◌, ◌<◌, ◌≤◌, ◌⊎◌, List, Some, None, Ok, Err, Option, Result}
 use Rattle.period.specs.Labels.{base}
 use Rattle.period.specs.Pages.{Page}
-use Rattle.period.specs.Reader.{Reader, one, maybe, close, read}
+use Rattle.period.specs.Reader.{Reader, one, maybe, value, demands, close, read}
+use Rattle.period.specs.Words.{generation_kind}
 use Rattle.period.specs.declared.cursor.Cursor.{Cursor}
 use Rattle.period.specs.declared.refusals.PeriodRefusal.{PeriodRefusal}
 use Rattle.period.specs.declared.slot.Slot.{Slot}
@@ -25,6 +26,11 @@ maybe_in s = maybe (base s.label) s.least s.most
 abbrev pub wanted : Slot → (ℕ → Reader) → Reader
 wanted s = one s.part (base s.label) s.least s.most
 
+-- the value of a word that a slot takes; else it lies before or behind those that it takes
+abbrev pub SlotRead : Slot → ℕ → Option ℕ → Type 0
+SlotRead s w (Some v) = (w ≡ base s.label + v) × (s.least ≤ v) × (v ≤ s.most)
+SlotRead s w None = (w < base s.label + s.least) ⊎ (base s.label + s.most < w)
+
 -- a value that is answered is one that the slot takes
 abbrev pub TakenInSlot : Slot → Option ℕ → Type 0
 TakenInSlot s (Some v) = (s.least ≤ v) × (v ≤ s.most)
@@ -34,10 +40,9 @@ abbrev pub ReadInSlot : Slot → Result ℕ PeriodRefusal → Type 0
 ReadInSlot s (Ok v) = (s.least ≤ v) × (v ≤ s.most)
 ReadInSlot s (Err e) = Unit {0}
 
--- the reader of a word that must stand there, or else only may
-abbrev pub may_or_must : Bool → Slot → (Option ℕ → Reader) → Reader
-may_or_must true s next = wanted s (λ v. next (Some v))
-may_or_must false s next = maybe_in s next
+-- the reader of a half-hour's demands and its generation
+abbrev pub amounts : ℕ → (List ℕ × ℕ → Reader) → Reader
+amounts types next = demands types (λ ds. value generation_kind (λ g. next (ds, g)))
 
 -- a reader went over to what is read next, with the value that was answered
 abbrev pub Hands : {A : Type 0} → ((A → Reader) → Reader) → Cursor → A → Cursor → Type 0

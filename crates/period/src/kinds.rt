@@ -1,16 +1,21 @@
-// The kinds of a period's words, as the top 4 bits have them.
-pub(crate) const LENGTH: u32 = 1;
+// The kinds of a period's words and the fields of its battery words, each with the number that it has in a word.
+#[derive(Clone, Copy)]
+pub(crate) enum Kind {
+    HalfHours = 1,
+    Types = 2,
+    Battery = 3,
+    Import = 4,
+    Export = 5,
+    Demand = 6,
+    Generation = 7,
+    Closing = 15,
+}
 
-pub(crate) const TYPES: u32 = 2;
-
-pub(crate) const BATTERY: u32 = 3;
-
-pub(crate) const IMPORT: u32 = 4;
-
-pub(crate) const EXPORT: u32 = 5;
-
-pub(crate) const DEMAND: u32 = 6;
-
-pub(crate) const GENERATION: u32 = 7;
-
-pub(crate) const CLOSING: u32 = 15;
+#[derive(Clone, Copy)]
+pub(crate) enum Field {
+    Lowest = 0,
+    Highest = 1,
+    Most = 2,
+    Charging = 3,
+    Discharging = 4,
+}

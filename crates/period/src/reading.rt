@@ -1,13 +1,13 @@
 // One half-hour of a period.
 
 // In hundredths of a penny for 1,000 watt-hours.
-#[derive(Clone, Copy)]
+#[derive(Clone, Copy, Debug, PartialEq, Eq)]
 pub struct Tariffs {
     pub import: u32,
     pub export: u32,
 }
 
-#[derive(Clone, Copy)]
+#[derive(Clone, Copy, Debug, PartialEq, Eq)]
 pub struct Reading {
     // the tariffs in force
     pub tariffs: Tariffs,

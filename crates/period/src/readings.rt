@@ -1,5 +1,6 @@
 // The half-hours of a period that are still to be read.
 ghost use Rattle.std.specs.Prelude.{◌≤◌};
+ghost use Rattle.period.specs.Limits.{most_types};
 
 use crate::reading::Tariffs;
 
@@ -13,5 +14,5 @@ pub struct Readings<'a> {
     pub(crate) types: u8,
     // the tariffs of the half-hour before
     pub(crate) tariffs: Tariffs,
-    ghost few: { types ≤ 4 },
+    ghost few: { types ≤ most_types },
 }

@@ -1,15 +1,18 @@
 // The parts of a word.
-ghost use Rattle.std.specs.Prelude.{◌≡◌};
+ghost use Rattle.std.specs.Prelude.{◌≡◌, ◌↔◌, IsTrue};
+ghost use Rattle.period.specs.Labels.{kind_number};
 ghost use Rattle.period.specs.Words.{kind_of, value_of, field_of, field_value_of};
 
-// The top 4 bits.
-pub(crate) fn kind(word: u32) -> u32
-    ensures { result ≡ kind_of word }
+use crate::kinds::Kind;
+
+// Whether a word is of a kind, which its top 4 bits tell.
+pub(crate) fn is_of(word: u32, kind: Kind) -> bool
+    ensures { IsTrue result ↔ (kind_of word ≡ kind_number kind) }
 {
-    word >> 28
+    word >> 28 == kind as u32
 }
 
-// The low 28 bits.
+// The low 28 bits. This and `field_value` are two masks, written out: as one function of a width, a shift less one, neither would show its bits.
 pub(crate) fn value(word: u32) -> u32
     ensures { result ≡ value_of word }
 {

@@ -1,5 +1,7 @@
+pub mod Chains
 pub mod Combinatorics
 pub mod CommonMultiples
+pub mod Picks
 pub mod Places
 pub mod Rows
 pub mod Shapley

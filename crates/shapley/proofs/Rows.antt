@@ -1,13 +1,14 @@
 -- The table of weights: its entries are the weights, row after row.
-use Rattle.std.proofs.Common.{◌≡◌, ℕ, zero, suc, ◌+◌, ◌-◌, ◌*◌, ◌/◌, ◌<◌, ◌≤◌, Bool, T, eqb, List, [], ◌∷◌, get_or, ap, ◌∙◌, zero-mul, arith, eqb→eq}
+use Rattle.std.proofs.Common.{◌≡◌, ℕ, zero, suc, ◌+◌, ◌-◌, ◌*◌, ◌/◌, ◌<◌, ◌≤◌, Bool, true, eqb, List, [], ◌∷◌, get_or, ap, ◌∙◌, zero-mul, arith, refl}
+use Rattle.std.proofs.lemmas.Bool.{eqb-true}
 use native.Mathlib.Nat.{mul-div_cancel_left}
-use Rattle.std.proofs.lemmas.Nat.{mul-le}
 use Rattle.shapley.proofs.CommonMultiples.{lcm_to_pos}
 use Rattle.shapley.proofs.Tests.{each_below, at}
 use Rattle.shapley.proofs.Weights.{weights_are_exact, row_starts}
 use Rattle.shapley.specs.Combinations.{choose}
 use Rattle.shapley.specs.CommonMultiple.{lcm_to}
-use Rattle.shapley.specs.Weights.{weight}
+use Rattle.shapley.specs.Weights.{weight, HasWeight}
+use Rattle.composition.specs.Counts.{most}
 
 -- the table as the code has it
 unfoldable pub table : List ℕ
@@ -53,33 +54,29 @@ right : ℕ → ℕ → Bool
 right n j = eqb (get_or table (entry_place n j) 0) (weight n j)
 
 -- one test of all rows
-all_right : T (each_below 25 (λ n. each_below n (right n)))
+all_right : each_below 25 (λ n. each_below n (right n)) ≡ true
 unfolding table right
-all_right = tt
+all_right = refl
 
-pub entry_is_weight : (n j : ℕ) → n ≤ 24 → j < n → get_or table (entry_place n j) 0 ≡ weight n j
+pub entry_is_weight : (n j : ℕ) → HasWeight n j → get_or table (entry_place n j) 0 ≡ weight n j
 unfolding right
-entry_is_weight n j p q =
-    eqb→eq (get_or table (entry_place n j) 0) (weight n j)
-    (at n (right n) (at 25 (λ m. each_below m (right m)) all_right n (omega arith)) j q)
-
--- the last row ends with the table
-pub entry_inside : (n j : ℕ) → n ≤ 24 → j < n → entry_place n j < 300
-entry_inside n j p q = omega (arith, mul-le n (n - 1) 24 23 p (omega arith))
+entry_is_weight n j (_, few, below) =
+    eqb-true (get_or table (entry_place n j) 0) (weight n j)
+    (at n (right n) (at 25 (λ m. each_below m (right m)) all_right n (omega arith)) j below)
 
 -- no weight is 0: times something it gives the least common multiple
-pub weight_pos : (n j : ℕ) → n ≤ 24 → j < n → 0 < weight n j
-weight_pos n j p q = factor_pos (weight n j) (n * choose (n - 1) j) (lcm_to n) (weights_are_exact n j (omega arith, p, q)) (lcm_to_pos n)
+pub weight_pos : (n j : ℕ) → HasWeight n j → 0 < weight n j
+weight_pos n j has = factor_pos (weight n j) (n * choose (n - 1) j) (lcm_to n) (weights_are_exact n j has) (lcm_to_pos n)
   where
     factor_pos : (w d l : ℕ) → w * d ≡ l → 0 < l → 0 < w
     factor_pos zero d l e h = absurd (omega (arith, zero-mul d))
     factor_pos (suc w) d l e h = omega arith
 
 -- a row's first weight over another is in how many ways the others can be picked
-pub row_quotient : (m j : ℕ) → m ≤ 23 → j ≤ m → weight (m + 1) 0 / weight (m + 1) j ≡ choose m j
+pub row_quotient : (m j : ℕ) → m < most → j ≤ m → weight (m + 1) 0 / weight (m + 1) j ≡ choose m j
 row_quotient m j p q =
     ap (λ (x : ℕ). x / weight (m + 1) j) (row_starts (m + 1) j (omega arith) (omega arith) (omega arith))
-    ∙ mul-div_cancel_left (choose (m + 1 - 1) j) (weight_pos (m + 1) j (omega arith) (omega arith))
+    ∙ mul-div_cancel_left (choose (m + 1 - 1) j) (weight_pos (m + 1) j (omega arith, omega arith, omega arith))
     ∙ ap (λ (x : ℕ). choose x j) one_less
   where
     one_less : m + 1 - 1 ≡ m

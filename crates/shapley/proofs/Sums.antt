@@ -60,14 +60,8 @@ subset_sum_scale k ps f = subset_sum_rel (λ a b. k *ℤ a ≡ b) (scaled k) ps 
 
 -- ---- summands in order
 
-pub range_sum_mono : (n : ℕ) (f g : ℕ → ℤ) → ((j : ℕ) → j ≤ n → f j ≤ℤ g j) → range_sum n f ≤ℤ range_sum n g
-range_sum_mono = range_sum_rel ◌≤ℤ◌ add_≤
-
 pub box_sum_mono : (counts : List ℕ) (f g : List ℕ → ℤ) → ((n : List ℕ) → Inside n counts → f n ≤ℤ g n) → box_sum counts f ≤ℤ box_sum counts g
 box_sum_mono = box_sum_rel ◌≤ℤ◌ add_≤
-
-pub subset_sum_mono : {P : Type 0} (ps : List P) (f g : List P → ℤ) → ((s : List P) → f s ≤ℤ g s) → subset_sum ps f ≤ℤ subset_sum ps g
-subset_sum_mono = subset_sum_rel ◌≤ℤ◌ add_≤
 
 -- ---- a sum of sums
 

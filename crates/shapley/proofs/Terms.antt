@@ -1,14 +1,13 @@
--- What one group of the others brings to a share: that it can be read off the tables, and that it is small.
-use Rattle.std.proofs.Common.{◌≡◌, ℕ, ◌+◌, ◌*◌, ◌^◌, ◌<◌, ◌≤◌, List, [], ◌∷◌, length, get_or, ℤ, pos, negsuc, ◌-ℤ◌, ◌*ℤ◌, neg_ℤ, ◌≤ℤ◌, sym, refl, ap, ◌∙◌, ap₂, le_trans, mul-le-mul, mul-one, arith, pow_mono, w64, SFits}
+-- What a group of the others brings to a home's share: that it can be read off the tables, and that it is small.
+use Rattle.std.proofs.Common.{◌≡◌, ℕ, ◌*◌, ◌^◌, ◌<◌, ◌≤◌, List, ℤ, pos, negsuc, ◌*ℤ◌, neg_ℤ, ◌≤ℤ◌, ap, ◌∙◌, le_trans, mul-le-mul, arith, pow_mono, w64, SFits}
 use mir.Syntax.{Width}
 use mir.Val.{hbits}
 use Rattle.std.proofs.lemmas.Int.{ints}
-use Rattle.composition.proofs.Changes.{count_le_total, length_raised, total_lowered}
-use Rattle.composition.proofs.Four.{split4, total_four}
-use Rattle.composition.proofs.Places.{inside_length, inside_count, place_below, place_raised}
-use Rattle.composition.specs.Counts.{total, count, size, Inside, place, at_place, step, raised, lowered}
+use Rattle.composition.proofs.Changes.{total_lowered}
+use Rattle.composition.proofs.Places.{inside_lowered, inside_total, place_below, raised_inside}
+use Rattle.composition.specs.Amounts.{Between}
+use Rattle.composition.specs.Counts.{most, total, size, Inside, place, at_place, raised, lowered}
 use Rattle.composition.specs.Types.{position}
-use Rattle.composition.specs.declared.demand_type.DemandType.{DemandType}
 use Rattle.cost_rules.specs.Limits.{limit, Within}
 use Rattle.shapley.proofs.Combinatorics.{ways_le_power}
 use Rattle.shapley.proofs.CommonMultiples.{lcm_to_small}
@@ -16,163 +15,101 @@ use Rattle.rounding.proofs.Integers.{scale_≤, *ℤ_negℤ}
 use Rattle.shapley.proofs.Places.{place_sum, places_are_groups, size_le_power}
 use Rattle.shapley.proofs.Shapley.{share_bounded_by_counts}
 use Rattle.shapley.proofs.Weights.{weight_le_lcm}
-use Rattle.shapley.specs.Combinations.{choose, ways}
+use Rattle.shapley.specs.Combinations.{ways}
 use Rattle.shapley.specs.CommonMultiple.{lcm_to}
-use Rattle.shapley.specs.CostTables.{costs_by}
-use Rattle.shapley.specs.Shares.{box_sum, marginal, share, term}
+use Rattle.shapley.specs.CostTables.{added_in, cost_in, share_in, term_in}
+use Rattle.shapley.specs.Shares.{box_sum}
 use Rattle.shapley.specs.Weights.{weight}
+use Rattle.shapley.specs.declared.cost_table.home.Home.{Home}
 
--- ---- picking a group
-
--- so that each count of a group, as it is read, can be looked up
-pub entry_few : (i : ℕ) (a ms : List ℕ) → a ≡ ms → total ms ≤ 23 → get_or a i 0 ≤ 23
-entry_few i a ms e h = omega (arith, count_le_total i a, ap total e)
-
-pub entry_within : (i : ℕ) (a b ms ns : List ℕ) → a ≡ ms → b ≡ ns → Inside ns ms → get_or b i 0 ≤ get_or a i 0
-entry_within i a b ms ns e f h = rw (e, f) (inside_count i ns ms h)
-
--- the ways for four counts, written out
-abbrev ways_at : List ℕ → List ℕ → ℕ
-ways_at ms ns =
-    choose (get_or ms 0 0) (get_or ns 0 0)
-    * (choose (get_or ms 1 0) (get_or ns 1 0) * (choose (get_or ms 2 0) (get_or ns 2 0) * choose (get_or ms 3 0) (get_or ns 3 0)))
-
-ways_four : (ms ns : List ℕ) → length ms ≡ 4 → length ns ≡ 4 → ways_at ms ns ≡ ways ms ns
-ways_four ms ns h k = rw (split4 0 ms h, split4 0 ns k) (simp mul-one)
+-- ---- how much a group counts
 
 -- among 23 others there are no more ways than subsets
 ways_small : (ms ns : List ℕ) → total ms ≤ 23 → ways ms ns ≤ 2 ^ 23
 ways_small ms ns h = le_trans (ways_le_power ms ns) (pow_mono h)
 
--- nor for the last counts alone
-two_small : (a b w x : ℕ) → a + b ≤ 23 → choose a w * choose b x ≤ 2 ^ 23
-two_small a b w x h = simp mul-one at (ways_small (a ∷ b ∷ []) (w ∷ x ∷ []) (omega arith))
-
-three_small : (a b c w x y : ℕ) → a + (b + c) ≤ 23 → choose a w * (choose b x * choose c y) ≤ 2 ^ 23
-three_small a b c w x y h = simp mul-one at (ways_small (a ∷ b ∷ c ∷ []) (w ∷ x ∷ y ∷ []) (omega arith))
-
--- so the products of four looked up, from the last on, are small, and the whole is the ways
-pub record Picked (a b c d whole : ℕ) : Type 0 where
-  pub last : c * d ≤ 2 ^ 23
-  pub later : b * (c * d) ≤ 2 ^ 23
-  pub all : a * (b * (c * d)) ≤ 2 ^ 23
-  pub value : a * (b * (c * d)) ≡ whole
-
-pub picked :
-    (ms ns : List ℕ) (a b c d : ℕ)
-    → length ms ≡ 4
-    → length ns ≡ 4
-    → total ms ≤ 23
-    → a ≡ choose (get_or ms 0 0) (get_or ns 0 0)
-    → b ≡ choose (get_or ms 1 0) (get_or ns 1 0)
-    → c ≡ choose (get_or ms 2 0) (get_or ns 2 0)
-    → d ≡ choose (get_or ms 3 0) (get_or ns 3 0)
-    → Picked a b c d (ways ms ns)
-picked ms ns a b c d h k few e f g i =
-    let sum : get_or ms 0 0 + get_or ms 1 0 + get_or ms 2 0 + get_or ms 3 0 ≤ 23 = omega (arith, total_four ms h) in
-    rw (e, f, g, i)
-    (record {
-      last = two_small (get_or ms 2 0) (get_or ms 3 0) (get_or ns 2 0) (get_or ns 3 0) (omega arith);
-      later = three_small (get_or ms 1 0) (get_or ms 2 0) (get_or ms 3 0) (get_or ns 1 0) (get_or ns 2 0) (get_or ns 3 0) (omega arith);
-      all = omega (arith, ways_four ms ns h k, ways_small ms ns few);
-      value = ways_four ms ns h k;
-    })
-
--- ---- how much a group counts
-
 -- a weight is at most the least common multiple, which is below 2 ^ 33
-pub factor_small : (n j : ℕ) (ms ns : List ℕ) → n ≤ 24 → total ms ≤ 23 → weight n j * ways ms ns ≤ 2 ^ 56
+factor_small : (n j : ℕ) (ms ns : List ℕ) → n ≤ 24 → total ms ≤ 23 → weight n j * ways ms ns ≤ 2 ^ 56
 factor_small n j ms ns h k =
     le_trans (mul-le-mul (le_trans (weight_le_lcm n j) (lcm_to_small n h)) (ways_small ms ns k)) (omega arith)
 
--- times what a home adds, on either side of 0
-pub term_high : (f : ℕ) (z : ℤ) → f ≤ 2 ^ 56 → z ≤ℤ pos (2 ^ 30) → (pos f *ℤ z) ≤ℤ pos (2 ^ 86)
-term_high f z h k = let s : (pos f *ℤ z) ≤ℤ (pos f *ℤ pos (2 ^ 30)) = scale_≤ f z (pos (2 ^ 30)) k in omega (arith, ints)
-
-pub term_low : (f : ℕ) (z : ℤ) → f ≤ 2 ^ 56 → neg_ℤ (pos (2 ^ 30)) ≤ℤ z → neg_ℤ (pos (2 ^ 86)) ≤ℤ (pos f *ℤ z)
-term_low f z h k =
-    let s : (pos f *ℤ neg_ℤ (pos (2 ^ 30))) ≤ℤ (pos f *ℤ z) = scale_≤ f (neg_ℤ (pos (2 ^ 30))) z k in
+-- so many times what is at most 2 ^ 30, on either side of 0
+times_small : (f : ℕ) (z : ℤ) → f ≤ 2 ^ 56 → Between (2 ^ 30) z → Between (2 ^ 86) (pos f *ℤ z)
+times_small f z h (low, high) =
+    let s : (pos f *ℤ neg_ℤ (pos (2 ^ 30))) ≤ℤ (pos f *ℤ z) = scale_≤ f (neg_ℤ (pos (2 ^ 30))) z low in
+    let t : (pos f *ℤ z) ≤ℤ (pos f *ℤ pos (2 ^ 30)) = scale_≤ f z (pos (2 ^ 30)) high in
     let e : pos f *ℤ neg_ℤ (pos (2 ^ 30)) ≡ neg_ℤ (pos f *ℤ pos (2 ^ 30)) = *ℤ_negℤ (pos f) (pos (2 ^ 30)) in
-    omega (arith, ints)
+    (omega (arith, ints), omega (arith, ints))
 
 -- what is between a bound and its negation fits a width that the bound fits
-pub between_fits : (w : Width) (b : ℕ) (z : ℤ) → b < 2 ^ hbits w → neg_ℤ (pos b) ≤ℤ z → z ≤ℤ pos b → SFits w z
-between_fits w b (pos n) h low high = record { sfits = omega (arith, ints) }
-between_fits w b (negsuc n) h low high = record { sfits = omega (arith, ints) }
-
--- ---- where a cost stands
+pub between_fits : (w : Width) (b : ℕ) (z : ℤ) → b < 2 ^ hbits w → Between b z → SFits w z
+between_fits w b (pos n) h k = record { sfits = omega (arith, ints) }
+between_fits w b (negsuc n) h k = record { sfits = omega (arith, ints) }
 
 -- a table of costs is short enough for an index to be added to
 pub size_small : (ms : List ℕ) → total ms ≤ 24 → size ms ≤ 2 ^ 24
 size_small ms h = le_trans (size_le_power ms) (pow_mono h)
 
--- a group that may have one home more has as many counts as the homes
-raised_length : (i : ℕ) (ms ns : List ℕ) → Inside (raised i ns) ms → length ns ≡ length ms
-raised_length i ms ns h = sym (length_raised i ns) ∙ inside_length (raised i ns) ms h
+-- ---- a home, and a group of the others
 
--- the place with one home more, as a program adds it up
-stepped : (i p s : ℕ) (ms ns : List ℕ) → p ≡ place ms ns → s ≡ step i ms → i < length ms → Inside (raised i ns) ms → p + s ≡ place ms (raised i ns)
-stepped i p s ms ns e f h k = ap₂ (λ (x y : ℕ). x + y) e f ∙ sym (place_raised i ms ns h (raised_length i ms ns k))
+-- the others are one home fewer
+pub others_fewer : (h : Home) → total h.others.counts < total h.table.homes.counts
+others_fewer h = omega (arith, total_lowered (position h.of) h.table.homes.counts h.some, ap total h.fewer)
 
--- it stands in the table, and so does the place without that home
-pub stepped_below : (i p s : ℕ) (ms ns : List ℕ) → p ≡ place ms ns → s ≡ step i ms → i < length ms → Inside (raised i ns) ms → p + s < size ms
-stepped_below i p s ms ns e f h k = omega (arith, stepped i p s ms ns e f h k, place_below ms (raised i ns) k)
+pub others_few : (h : Home) → total h.others.counts < most
+others_few h = let fewer : total h.others.counts < total h.table.homes.counts = others_fewer h in omega (arith, h.table.homes.few)
 
-pub unstepped_below : (i p : ℕ) (ms ns : List ℕ) → p ≡ place ms ns → i < length ms → Inside (raised i ns) ms → p < size ms
-unstepped_below i p ms ns e h k = omega (arith, stepped_below i p (step i ms) ms ns e refl h k)
+module _ (h : Home) (n : List ℕ) (inside : Inside n h.others.counts) where
+  lies : Inside n (lowered (position h.of) h.table.homes.counts)
+  lies = rw h.fewer at inside
 
--- the difference of two costs that are read there is what the home adds
-pub read_marginal :
-    (i p s : ℕ) (ms ns : List ℕ) (costs : List ℤ) (x y : ℤ)
-    → p ≡ place ms ns
-    → s ≡ step i ms
-    → i < length ms
-    → Inside (raised i ns) ms
-    → x ≡ get_or costs (p + s) (pos 0)
-    → y ≡ get_or costs p (pos 0)
-    → x -ℤ y ≡ marginal (costs_by ms costs) i ns
-read_marginal i p s ms ns costs x y e f h k g j =
-    ap₂ (λ (a b : ℤ). a -ℤ b)
-    (g ∙ ap (λ (q : ℕ). get_or costs q (pos 0)) (stepped i p s ms ns e f h k)) (j ∙ ap (λ (q : ℕ). get_or costs q (pos 0)) e)
+  -- the group leaves a home over, so that its weight stands in the row
+  pub members_fewer : total n < total h.table.homes.counts
+  members_fewer = omega (arith, inside_total n h.others.counts inside, others_fewer h)
 
--- ---- a term, and all of them
+  -- the group lies inside the homes, and so it does with the home
+  pub without_home : Inside n h.table.homes.counts
+  without_home = inside_lowered (position h.of) n h.table.homes.counts lies
 
--- the others are one home fewer, so their weights stand in the row
-pub others_fewer : (i : ℕ) (ms os : List ℕ) → os ≡ lowered i ms → 0 < count i ms → total os < total ms
-others_fewer i ms os e h = omega (arith, total_lowered i ms h, ap total e)
+  pub with_home : Inside (raised (position h.of) n) h.table.homes.counts
+  with_home = raised_inside (position h.of) n h.table.homes.counts h.some lies
 
--- a product of what was looked up and read is the term of the group at the place
-pub read_term :
-    (i p f : ℕ) (ms os g : List ℕ) (c : List ℕ → ℤ) (z r : ℤ)
-    → os ≡ lowered i ms
-    → g ≡ at_place os p
-    → f ≡ weight (total ms) (total g) * ways os g
-    → z ≡ marginal c i g
-    → r ≡ pos f *ℤ z
-    → r ≡ term ms i c (at_place os p)
-read_term i p f ms os g c z r e h k m n =
-    n ∙ ap₂ (λ (a : ℕ) (b : ℤ). pos a *ℤ b) k m
-    ∙ ap₂ (λ (o x : List ℕ). pos (weight (total ms) (total x) * ways o x) *ℤ marginal c i x) e h
+  -- a group's cost is within the limits
+  cost_within : (m : List ℕ) → Inside m h.table.homes.counts → Within (cost_in h.table m)
+  cost_within m i = h.table.limits (place h.table.homes.counts m) (place_below h.table.homes.counts m i)
 
--- the terms at all places of the others are the share
-pub all_summed :
-    (i p : ℕ) (ms os : List ℕ) (c : List ℕ → ℤ) (s : ℤ)
-    → os ≡ lowered i ms
-    → p ≡ size os
-    → s ≡ place_sum p (λ q. term ms i c (at_place os q))
-    → s ≡ share ms i c
-all_summed i p ms os c s e h k =
-    k ∙ ap (λ (n : ℕ). place_sum n (λ q. term ms i c (at_place os q))) h ∙ places_are_groups os (term ms i c)
-    ∙ ap (λ (o : List ℕ). box_sum o (term ms i c)) e
+  -- and so is what the home adds to it
+  pub added_small : Between (2 ^ 30) (added_in h.table h.of n)
+  added_small =
+      let a : Within (cost_in h.table (raised (position h.of) n)) = cost_within (raised (position h.of) n) with_home in
+      let b : Within (cost_in h.table n) = cost_within n without_home in
+      (omega (arith, ints), omega (arith, ints))
 
--- a share by costs within their limits fits: 24 homes' least common multiple times a thousand million is below 2 ^ 63
-pub share_fits :
-    (ms : List ℕ) (k : DemandType) (costs : List ℤ)
-    → length ms ≡ 4
-    → total ms ≤ 24
-    → 0 < count (position k) ms
-    → ((p : ℕ) → p < size ms → Within (get_or costs p (pos 0)))
-    → SFits w64 (share ms (position k) (costs_by ms costs))
-share_fits ms k costs four few some limits =
-    let bounds = share_bounded_by_counts limit (costs_by ms costs) ms k four few some (λ n inside. limits (place ms n) (place_below ms n inside)) in
-    between_fits w64 (lcm_to (total ms) * (2 * limit)) (share ms (position k) (costs_by ms costs)) (omega (arith, lcm_to_small (total ms) few)) bounds.0 bounds.1
+  -- how much the group counts
+  pub counts_small : weight (total h.table.homes.counts) (total n) * ways h.others.counts n ≤ 2 ^ 56
+  counts_small =
+      factor_small (total h.table.homes.counts) (total n) h.others.counts n h.table.homes.few
+      (omega (arith, others_few h))
+
+  -- a product of the two is what the group brings
+  pub term_is : (f : ℕ) → f ≡ weight (total h.table.homes.counts) (total n) * ways h.others.counts n → pos f *ℤ added_in h.table h.of n ≡ term_in h.table h.of n
+  term_is f e = rw (e, h.fewer)
+
+  pub term_small : Between (2 ^ 86) (term_in h.table h.of n)
+  term_small = rw h.fewer at (times_small (weight (total h.table.homes.counts) (total n) * ways h.others.counts n) (added_in h.table h.of n) counts_small added_small)
+
+-- ---- a home's share
+
+-- what the groups at all places of the others bring, added up
+pub all_summed : (h : Home) → place_sum (size h.others.counts) (λ p. term_in h.table h.of (at_place h.others.counts p)) ≡ share_in h.table h.of
+all_summed h =
+    places_are_groups h.others.counts (term_in h.table h.of) ∙ ap (λ (ms : List ℕ). box_sum ms (term_in h.table h.of)) h.fewer
+
+-- by costs within their limits it fits: 24 homes' least common multiple times a thousand million is below 2 ^ 63
+pub share_fits : (h : Home) → SFits w64 (share_in h.table h.of)
+share_fits h =
+    let homes = h.table.homes in
+    between_fits w64 (lcm_to (total homes.counts) * (2 * limit)) (share_in h.table h.of)
+    (omega (arith, lcm_to_small (total homes.counts) homes.few))
+    (share_bounded_by_counts limit (cost_in h.table) homes.counts h.of homes.four homes.few h.some
+    (λ n inside. h.table.limits (place homes.counts n) (place_below homes.counts n inside)))

@@ -1,26 +1,33 @@
 -- The weights leave nothing over, and what follows for factorials and along a row.
-use Rattle.std.proofs.Common.{◌≡◌, ℕ, suc, ◌+◌, ◌-◌, ◌*◌, ◌<◌, ◌≤◌, Bool, T, eqb, sym, ap, ◌∙◌, mul_assoc, mul_comm, mul-one, div-le_self, mul_left_comm, arith, eqb→eq}
+use Rattle.std.proofs.Common.{Option, Some, None, is_some, true, false, IfSome, refl, ◌≡◌, ℕ, suc, ◌+◌, ◌-◌, ◌*◌, ◌<◌, ◌≤◌, Bool, eqb, sym, ap, ◌∙◌, mul_assoc, mul_comm, mul-one, div-le_self, mul_left_comm, arith}
+use Rattle.std.proofs.lemmas.Bool.{eqb-true}
 use native.Mathlib.Nat.{eq_of_mul-eq-mul_right}
 use Rattle.shapley.proofs.Combinatorics.{choose_factorials}
 use Rattle.shapley.proofs.Tests.{each_below, at}
 use Rattle.shapley.specs.Combinations.{factorial, choose}
 use Rattle.shapley.specs.CommonMultiple.{lcm_to}
-use Rattle.shapley.specs.Weights.{weight, WeightsAreExact}
+use Rattle.shapley.specs.Tables.{LookedUp}
+use Rattle.shapley.specs.Weights.{weight, HasWeight, WeightsAreExact}
 
 -- the weight of one entry times its divisor gives the least common multiple back
 exact : ℕ → ℕ → Bool
 exact n j = eqb (weight n j * (n * choose (n - 1) j)) (lcm_to n)
 
 -- one test of all rows
-all_exact : T (each_below 25 (λ n. each_below n (exact n)))
+all_exact : each_below 25 (λ n. each_below n (exact n)) ≡ true
 unfolding exact
-all_exact = tt
+all_exact = refl
 
 pub weights_are_exact : WeightsAreExact
 unfolding exact
 weights_are_exact n j has =
-    eqb→eq (weight n j * (n * choose (n - 1) j)) (lcm_to n)
+    eqb-true (weight n j * (n * choose (n - 1) j)) (lcm_to n)
     (at n (exact n) (at 25 (λ m. each_below m (exact m)) all_exact n (omega (arith, has.1))) j has.2)
+
+-- what looking a weight up answers, where it answers exactly if there is one
+pub looked_up : (n j : ℕ) (r : Option ℕ) → (is_some r ≡ true → HasWeight n j) → (HasWeight n j → is_some r ≡ true) → IfSome r (λ w. w ≡ weight n j) → LookedUp n j r
+looked_up n j None only always e = λ has. (let h : false ≡ true = always has in absurd (cc))
+looked_up n j (Some w) only always e = let has : HasWeight n j = only refl in (has, e, rw e (weights_are_exact n j has))
 
 pub weight_le_lcm : (n j : ℕ) → weight n j ≤ lcm_to n
 weight_le_lcm n j = div-le_self (lcm_to n) (n * choose (n - 1) j)

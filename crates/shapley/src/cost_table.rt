@@ -5,6 +5,8 @@ ghost use Rattle.cost_rules.specs.Limits.{Within};
 
 use composition::Composition;
 
+mod group;
+mod home;
 mod share;
 
 #[derive(Clone, Copy)]

@@ -2,7 +2,6 @@
 #![tactic(auto)]
 
 mod cost_table;
-mod ways;
 mod weight_table;
 
 pub use cost_table::CostTable;

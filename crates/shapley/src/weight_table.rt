@@ -1,10 +1,10 @@
 // The weights of what a home adds to a group of others, in a table, and what is read off it.
 ghost use Rattle.std.specs.Prelude.{◌≡◌, ◌<◌, ◌≤◌};
-ghost use Rattle.composition.specs.Counts.{total};
+ghost use Rattle.composition.specs.Counts.{most, total};
 ghost use Rattle.shapley.specs.Combinations.{choose};
 ghost use Rattle.shapley.specs.CommonMultiple.{lcm_to, LeastCommonMultiple};
 ghost use Rattle.shapley.specs.Tables.{LookedUp};
-ghost use Rattle.shapley.specs.Weights.{weight, WeightsAreExact};
+ghost use Rattle.shapley.specs.Weights.{weight, HasWeight, WeightsAreExact};
 
 use composition::Composition;
 
@@ -49,25 +49,21 @@ pub fn weight(homes: u8, others: u8) -> Option<u64>
     ensures entry { LookedUp homes others result }
     ensures rule { WeightsAreExact }
 {
-    if homes > 24 || others >= homes {
-        return None;
-    }
-    Some(entry(homes, others))
+    (homes <= 24 && others < homes).then(|| entry(homes, others))
 }
 
 // A weight that the table has: row n starts behind the 1 + 2 + .. + (n - 1) entries of the rows before.
 pub(crate) fn entry(homes: u8, others: u8) -> u64
-    requires few { homes ≤ 24 }
-    requires below { others < homes }
+    requires { HasWeight homes others }
     ensures { result ≡ weight homes others }
 {
-    let row = homes as usize * (homes as usize - 1) / 2;
-    WEIGHTS[row + others as usize]
+    let homes = usize::from(homes);
+    WEIGHTS[homes * (homes - 1) / 2 + usize::from(others)]
 }
 
 // In how many ways some can be picked. Each weight of a row times its ways is the row's first, so that no second table is needed.
 pub(crate) fn choose(of: u8, picked: u8) -> u64
-    requires few { of ≤ 23 }
+    requires few { of < most }
     requires within { picked ≤ of }
     ensures { result ≡ choose of picked }
 {
@@ -79,9 +75,8 @@ pub fn lcm_to(homes: &Composition) -> u64
     ensures value { result ≡ lcm_to (total homes.now.counts) }
     ensures least { LeastCommonMultiple (total homes.now.counts) result }
 {
-    let homes = homes.homes();
-    if homes == 0 {
-        return 1;
+    match homes.homes() {
+        0 => 1,
+        homes => u64::from(homes) * entry(homes, 0),
     }
-    homes as u64 * entry(homes, 0)
 }

@@ -1,28 +1,25 @@
 // Shares of 24 homes at the limits of costs, where a share comes near the ends of an i64.
 use crate::told::*;
+use std::array;
 use std::test::Fail;
 
 // What up to one home of type 1 and 23 of type 2 cost: a group with the home of type 1 the first amount, any other but
 // nobody the second.
 fn by_turns(with: i32, without: i32) -> [i32; 48] {
-    let mut costs = [0i32; 48];
-    for place in 1..48 {
-        costs[place] = if place % 2 == 1 { with } else { without };
-    }
-    costs
+    array::from_fn(|place| match place {
+        0 => 0,
+        _ if place % 2 == 1 => with,
+        _ => without,
+    })
 }
 
 // The first entry of 2160 is 0; after it the place's remainder by 11 says which limit a cost stands at.
 fn by_elevens() -> [i32; 2160] {
-    let mut costs = [0i32; 2160];
-    for place in 1..2160 {
-        costs[place] = if place % 11 < 6 {
-            500_000_000
-        } else {
-            -500_000_000
-        };
-    }
-    costs
+    array::from_fn(|place| match place {
+        0 => 0,
+        _ if place % 11 < 6 => 500_000_000,
+        _ => -500_000_000,
+    })
 }
 
 // One home of type 1 and 23 of type 2. A group with the home of type 1 costs 500,000,000, any other but nobody

@@ -1,20 +1,9 @@
 // What makes a rule or a group, and what is refused.
 use crate::told::*;
 use composition::Composition;
-use cost_rules::{CostRule, HeadRule, ListedRule};
+use cost_rules::ListedRule;
 use std::process::Abort;
 use std::test::Fail;
-
-// What a rule answers for a group: its cost, or the number of its fault.
-fn cost_by<R: CostRule>(rule: &R, counts: [u8; 4]) -> Result<i64, u8> {
-    let Ok(group) = Composition::new(counts) else {
-        return Err(8);
-    };
-    match rule.cost(&group) {
-        Ok(cost) => Ok(cost),
-        Err(fault) => Err(fault.number),
-    }
-}
 
 // A rule that says what one home of type 1 costs, and nothing of two, refuses a box and its costs, and stays as it was.
 fn check_refused(
@@ -73,10 +62,8 @@ fn a_fee_outside_the_limits_is_refused(rt: HostRuntime) -> Result<(), Fail> {
 }
 
 fn homes_in_group(counts: [u8; 4]) -> Result<u8, u8> {
-    match Composition::new(counts) {
-        Ok(group) => Ok(group.homes()),
-        Err(refusal) => Err(refusal.number()),
-    }
+    let group = by_number(Composition::new(counts))?;
+    Ok(group.homes())
 }
 
 #[test]

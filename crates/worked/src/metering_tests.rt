@@ -1,35 +1,20 @@
 // What groups cost by the grid rule and by the peak rule.
 use crate::periods::*;
-use composition::Composition;
-use cost_rules::CostRule;
+use crate::told::*;
 use metering::{GridRule, PeakRule};
 use period::Period;
 use std::process::Abort;
 use std::test::Fail;
 
-// The cost of so many homes of each type, or the fault's number.
-fn cost<R: CostRule>(rule: &R, homes: [u8; 4]) -> Result<i64, u8> {
-    let Ok(group) = Composition::new(homes) else {
-        return Err(8);
-    };
-    match rule.cost(&group) {
-        Ok(cost) => Ok(cost),
-        Err(fault) => Err(fault.number),
-    }
-}
-
 // What homes of type 1 cost by the grid over these words.
 fn grid_cost(words: &[u32], homes: u8) -> Result<Result<i64, u8>, Fail> {
     let mut period = Period::built_in();
     fill_period(&mut period, words)?;
-    Ok(cost(&GridRule::on(period), [homes, 0, 0, 0]))
+    Ok(cost_by(&GridRule::on(period), [homes, 0, 0, 0]))
 }
 
 fn set_price<'a>(rule: &mut PeakRule<'a>, period: Period<'a>, price: i64) -> Result<(), u8> {
-    match rule.fill(period, price) {
-        Ok(()) => Ok(()),
-        Err(refusal) => Err(refusal.number()),
-    }
+    by_number(rule.fill(period, price))
 }
 
 // 495 imported at 3,000 less 300 exported at 500, by a thousandth. The second half-hour lacks 900, which are 1,800 watts.
@@ -42,8 +27,8 @@ fn the_worked_period_costs_1335_and_its_peak_180(rt: HostRuntime) -> Result<(), 
     fill_period(&mut period, &WORKED)?;
     let mut peak = PeakRule::built_in();
     set_price(&mut peak, period, 100)?;
-    assert_eq!(rt; cost(&peak, [0; 4]), Ok(0));
-    assert_eq!(rt; cost(&peak, [1, 0, 0, 0]), Ok(180));
+    assert_eq!(rt; cost_by(&peak, [0; 4]), Ok(0));
+    assert_eq!(rt; cost_by(&peak, [1, 0, 0, 0]), Ok(180));
     Ok(())
 }
 
@@ -85,12 +70,12 @@ fn largest_at(tariff: u16) -> [u32; 35_146] {
 fn check_beyond_limits(rt: &impl Abort, words: &[u32]) -> Result<(), Fail> {
     let mut period = Period::built_in();
     fill_period(&mut period, words)?;
-    assert_eq!(rt; cost(&GridRule::on(period), [23, 0, 0, 1]), Err(12));
+    assert_eq!(rt; cost_by(&GridRule::on(period), [23, 0, 0, 1]), Err(12));
     let mut peak = PeakRule::built_in();
     set_price(&mut peak, period, 1_000_000)?;
-    assert_eq!(rt; cost(&peak, [12, 0, 0, 0]), Ok(480_000_000));
-    assert_eq!(rt; cost(&peak, [24, 0, 0, 0]), Err(10));
-    assert_eq!(rt; cost(&peak, [23, 1, 0, 0]), Err(12));
+    assert_eq!(rt; cost_by(&peak, [12, 0, 0, 0]), Ok(480_000_000));
+    assert_eq!(rt; cost_by(&peak, [24, 0, 0, 0]), Err(10));
+    assert_eq!(rt; cost_by(&peak, [23, 1, 0, 0]), Err(12));
     Ok(())
 }
 
@@ -101,12 +86,12 @@ fn a_price_is_from_0_to_1_000_000(rt: HostRuntime) -> Result<(), Fail> {
     fill_period(&mut period, &WORKED)?;
     let mut peak = PeakRule::built_in();
     assert_eq!(rt; set_price(&mut peak, period, -1), Err(42));
-    assert_eq!(rt; cost(&peak, [1, 0, 0, 0]), Ok(0));
-    assert_eq!(rt; cost(&peak, [0, 1, 0, 0]), Err(12));
+    assert_eq!(rt; cost_by(&peak, [1, 0, 0, 0]), Ok(0));
+    assert_eq!(rt; cost_by(&peak, [0, 1, 0, 0]), Err(12));
     assert_eq!(rt; set_price(&mut peak, period, 1_000_000), Ok(()));
     assert_eq!(rt; set_price(&mut peak, period, 1_000_001), Err(42));
-    assert_eq!(rt; cost(&peak, [1, 0, 0, 0]), Ok(1_800_000));
+    assert_eq!(rt; cost_by(&peak, [1, 0, 0, 0]), Ok(1_800_000));
     assert_eq!(rt; set_price(&mut peak, period, 0), Ok(()));
-    assert_eq!(rt; cost(&peak, [1, 0, 0, 0]), Ok(0));
+    assert_eq!(rt; cost_by(&peak, [1, 0, 0, 0]), Ok(0));
     Ok(())
 }

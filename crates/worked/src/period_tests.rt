@@ -1,6 +1,6 @@
 // Which words make a period, what it tells, and at which place other words are refused.
 use crate::periods::*;
-use period::{Period, Readings};
+use period::{Period, Reading};
 use std::process::Abort;
 use std::test::Fail;
 
@@ -35,20 +35,19 @@ fn check_with(rt: &impl Abort, place: usize, word: u32, expected: Result<(), (u8
     assert_eq!(rt; answer(&words), expected);
 }
 
-fn next(readings: &mut Readings) -> Option<HalfHour> {
-    let reading = readings.next()?;
+fn told(reading: Reading) -> HalfHour {
     let tariffs = reading.tariffs;
     let demands = reading.demands;
-    Some((tariffs.import, tariffs.export, demands, reading.generation))
+    (tariffs.import, tariffs.export, demands, reading.generation)
 }
 
 // These are all half-hours of a period.
 fn check_read(rt: &impl Abort, period: &Period, expected: &[HalfHour]) {
     let mut readings = period.readings();
     for half_hour in expected {
-        assert_eq!(rt; next(&mut readings), Some(*half_hour));
+        assert_eq!(rt; readings.next().map(told), Some(*half_hour));
     }
-    assert_eq!(rt; next(&mut readings), None);
+    assert_eq!(rt; readings.next().map(told), None);
 }
 
 // Words make a period with these half-hours.
@@ -95,8 +94,8 @@ fn a_refusal_leaves_the_period_as_it_was(rt: HostRuntime) -> Result<(), Fail> {
 // Where another word stands, and where the words end.
 #[test]
 fn each_word_is_wanted_at_its_place(rt: HostRuntime) {
-    for place in 0..14 {
-        let refused = Err((NUMBERS[place], place));
+    for (place, number) in NUMBERS.iter().enumerate() {
+        let refused = Err((*number, place));
         check_with(&rt, place, 0, refused);
         assert_eq!(rt; answer(&WORKED[..place]), refused);
     }

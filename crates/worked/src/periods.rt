@@ -1,5 +1,7 @@
 // Periods to test with.
 use period::Period;
+use refusal::Refusal;
+use std::array;
 
 // Two half-hours with readings for one type.
 pub(crate) static WORKED: [u32; 14] = [
@@ -24,24 +26,18 @@ pub(crate) fn fill_period<'a>(
     period: &mut Period<'a>,
     words: &'a [u32],
 ) -> Result<(), (u8, usize)> {
-    match period.fill(words) {
-        Ok(()) => Ok(()),
-        Err(refusal) => Err((refusal.number(), refusal.place)),
-    }
+    period
+        .fill(words)
+        .map_err(|refusal| (refusal.number(), refusal.place))
 }
 
 // 366 days of a demand and no generation, with the worked period's battery and tariffs, closed at place 9 + 2 x 17,568.
 pub(crate) fn leap_year(demand: u16) -> [u32; 35_146] {
-    let mut words = [0x60000000 + demand as u32; 35_146];
-    for place in 0..9 {
-        words[place] = WORKED[place];
-    }
-    words[0] = 0x10000000 + 17_568;
-    for place in 9..35_145 {
-        if place % 2 == 0 {
-            words[place] = 0x70000000;
-        }
-    }
-    words[35_145] = 0xF0000000 + 35_145;
-    words
+    array::from_fn(|place| match place {
+        0 => 0x10000000 + 17_568,
+        1..=8 => WORKED[place],
+        35_145 => 0xF0000000 + 35_145,
+        _ if place % 2 == 0 => 0x70000000,
+        _ => 0x60000000 + u32::from(demand),
+    })
 }

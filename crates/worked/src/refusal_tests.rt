@@ -15,8 +15,8 @@ fn check_refused(
 ) -> Result<(), Fail> {
     let refused = draft(account_with(last, homes)?, &broken(99, 0), table).err();
     assert_eq!(rt; refused, Some(((number, None), (homes, 0, last))));
-    for place in 0..table.len() {
-        assert_eq!(rt; table[place], 77);
+    for entry in table {
+        assert_eq!(rt; *entry, 77);
     }
     Ok(())
 }

@@ -1,4 +1,5 @@
-// Every home's share once more, from the definition: a plain sum over all subsets of the other homes.
+// Every home's share once more, from the definition: a plain sum over all subsets of the other homes. Sums wrap, and indices are cut down, since a
+// test is proved not to overflow either: no number here comes near that. Homes and costs go side by side through the functions, as in the definition.
 use crate::told::*;
 use account::{Account, Draft};
 use std::process::Abort;
@@ -14,9 +15,9 @@ const BITS: [usize; 7] = [1, 2, 4, 8, 16, 32, 64];
 fn costs_by_lot(seed: u32) -> [i32; 256] {
     let mut costs = [0i32; 256];
     let mut drawn = seed;
-    for place in 1..256 {
+    for cost in &mut costs[1..] {
         drawn = drawn.wrapping_mul(1_664_525).wrapping_add(1_013_904_223);
-        costs[place] = (drawn >> 16) as i32 - 32_768;
+        *cost = (drawn >> 16) as i32 - 32_768;
     }
     costs
 }
@@ -26,9 +27,9 @@ fn costs_by_lot(seed: u32) -> [i32; 256] {
 fn cost_of(homes: &[u8], subset: usize, costs: &[i32; 256]) -> (usize, i128) {
     let mut size = 0usize;
     let mut place = 0usize;
-    for at in 0..homes.len() {
-        if subset & BITS[at % 7] != 0 {
-            let step = match homes[at] {
+    for (number, bit) in homes.iter().zip(BITS) {
+        if subset & bit != 0 {
+            let step = match number {
                 1 => 1,
                 2 => 4,
                 3 => 16,
@@ -59,8 +60,8 @@ fn added_in_all_orders(homes: &[u8], bit: usize, costs: &[i32; 256]) -> i128 {
 // The bills of an account with these homes.
 fn draft_for(homes: &[u8], costs: &[i32; 256]) -> Result<Draft, Fail> {
     let mut account = Account::open_after(0);
-    for number in homes {
-        join(&mut account, *number)?;
+    for &number in homes {
+        join(&mut account, number)?;
     }
     draft_by_list(account, [3, 3, 3, 3], costs, &mut [0; 64])
 }
@@ -89,8 +90,8 @@ fn check_share(
 fn check_shares(rt: &impl Abort, homes: &[u8], seed: u32) -> Result<(), Fail> {
     let costs = costs_by_lot(seed);
     let draft = draft_for(homes, &costs)?;
-    for at in 0..homes.len() {
-        check_share(rt, homes, homes[at], BITS[at % 7], &draft, &costs)?;
+    for (number, bit) in homes.iter().zip(BITS) {
+        check_share(rt, homes, *number, bit, &draft, &costs)?;
     }
     Ok(())
 }

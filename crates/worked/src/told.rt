@@ -1,6 +1,9 @@
-// The calls under test, with answers that a test can compare and show: refusals by their numbers.
+// The calls under test, with answers that a test can compare and show: refusals by their numbers, since it is the numbers that are known outside.
+// Each helper takes what the call takes, an account with a rule and a table, or a box with its costs.
 use account::{Account, Draft, DraftRefusal};
+use composition::{Composition, DemandType};
 use cost_rules::{CostRule, HeadRule, ListedRefusal, ListedRule};
+use refusal::Refusal;
 use std::process::Abort;
 use std::test::Fail;
 
@@ -16,6 +19,11 @@ pub(crate) type Line = Option<(i64, i64)>;
 // A draft's least common multiple, the cost of all homes, the rebate in pence and the purse; and the lines of the types.
 pub(crate) type Bills = ((u64, i64, i64, u32), [Line; 4]);
 
+// An answer, or the number of its refusal.
+pub(crate) fn by_number<T, R: Refusal>(answer: Result<T, R>) -> Result<T, u8> {
+    answer.map_err(|refusal| refusal.number())
+}
+
 pub(crate) fn standing_of(account: &Account) -> Standing {
     (account.homes().counts(), account.purse(), account.last())
 }
@@ -28,26 +36,20 @@ pub(crate) fn account_with(last: u16, homes: [u8; 4]) -> Result<Account, Fail> {
 }
 
 fn join_all(account: &mut Account, homes: [u8; 4]) -> Result<(), u8> {
-    for at in 0..4u8 {
-        for _ in 0..homes[at as usize] {
-            join(account, at + 1)?;
+    for (of, count) in DemandType::ALL.into_iter().zip(homes) {
+        for _ in 0..count {
+            join(account, u8::from(of))?;
         }
     }
     Ok(())
 }
 
 pub(crate) fn join(account: &mut Account, number: u8) -> Result<(), u8> {
-    match account.join(number) {
-        Ok(()) => Ok(()),
-        Err(refusal) => Err(refusal.number()),
-    }
+    by_number(account.join(number))
 }
 
 pub(crate) fn leave(account: &mut Account, number: u8) -> Result<(), u8> {
-    match account.leave(number) {
-        Ok(()) => Ok(()),
-        Err(refusal) => Err(refusal.number()),
-    }
+    by_number(account.leave(number))
 }
 
 // A draft, or the ground on which it is refused and the account that comes back.
@@ -56,10 +58,10 @@ pub(crate) fn draft<R: CostRule>(
     rule: &R,
     table: &mut [i64],
 ) -> Result<Draft, (Ground, Standing)> {
-    match account.draft(rule, table) {
-        Ok(draft) => Ok(draft),
-        Err(refused) => Err((ground_of(refused.refusal), standing_of(&refused.account))),
-    }
+    account.draft(rule, table).map_err(|refused| (
+        ground_of(refused.refusal),
+        standing_of(&refused.account),
+    ))
 }
 
 fn ground_of(refusal: DraftRefusal) -> Ground {
@@ -71,10 +73,7 @@ fn ground_of(refusal: DraftRefusal) -> Ground {
 }
 
 pub(crate) fn line(draft: &Draft, number: u8) -> Result<Line, u8> {
-    match draft.line(number) {
-        Ok(line) => Ok(line),
-        Err(refusal) => Err(refusal.number()),
-    }
+    by_number(draft.line(number))
 }
 
 pub(crate) fn bills_of(draft: &Draft) -> Result<Bills, u8> {
@@ -119,19 +118,19 @@ pub(crate) fn fill<'a>(
     largest: [u8; 4],
     costs: &'a [i32],
 ) -> Result<(), (u8, Option<usize>)> {
-    match rule.fill(largest, costs) {
-        Ok(()) => Ok(()),
-        Err(refusal) => match refusal {
-            ListedRefusal::OutsideLimits(place) => Err((refusal.number(), Some(place))),
-            _ => Err((refusal.number(), None)),
-        },
-    }
+    rule.fill(largest, costs).map_err(|refusal| match refusal {
+        ListedRefusal::OutsideLimits(place) => (refusal.number(), Some(place)),
+        _ => (refusal.number(), None),
+    })
 }
 
 // A rule of fees, or the refusal's number and the number of the type that it names.
 pub(crate) fn head(fees: [i32; 4]) -> Result<HeadRule, (u8, u8)> {
-    match HeadRule::new(fees) {
-        Ok(rule) => Ok(rule),
-        Err(refusal) => Err((refusal.number(), refusal.of.number())),
-    }
+    HeadRule::new(fees).map_err(|refusal| (refusal.number(), u8::from(refusal.of)))
+}
+
+// What a rule answers for a group: its cost, or the number of its fault.
+pub(crate) fn cost_by<R: CostRule>(rule: &R, counts: [u8; 4]) -> Result<i64, u8> {
+    let group = by_number(Composition::new(counts))?;
+    rule.cost(&group).map_err(|fault| fault.number)
 }

@@ -12,6 +12,7 @@ impl Account {
     pub fn draft<R: CostRule>(self, rule: &R, table: &mut [i64]) -> Result<Draft, Refused>
         ensures { Drafted today (R.CostRule.meaning rule.now) self table.old result table.new }
     {
+        // a match and no `?`: the account goes into either answer
         match self.prepare(rule, table) {
             Ok(()) => Ok(Draft::bill(self, table)),
             Err(refusal) => Err(Refused {

@@ -1,7 +1,7 @@
 // Filling a caller's table with the cost of every composition inside an account.
 ghost use Rattle.std.specs.Prelude.{◌≤◌, length};
-ghost use Rattle.composition.specs.Counts.{size, at_place};
-ghost use Rattle.account.specs.Filling.{CostAt, FillEnds};
+ghost use Rattle.composition.specs.Counts.{size};
+ghost use Rattle.account.specs.Filling.{FillEnds};
 ghost use Rattle.account.specs.Calls.{Prepared};
 ghost use Rattle.account.specs.Terms.{today};
 
@@ -40,18 +40,11 @@ fn fill<R: CostRule>(homes: &Composition, rule: &R, table: &mut [i64]) -> Result
     requires { size homes.now.counts ≤ length table.old }
     ensures { FillEnds (R.CostRule.meaning rule.now) homes.now.counts table.old result table.new }
 {
-    for place in 0..homes.size() {
-        table[place] = cost_at(homes, place, rule)?;
+    let size = homes.size();
+    for (place, entry) in table[..size].iter_mut().enumerate() {
+        *entry = rule
+            .cost(&homes.at(place))
+            .map_err(|fault| DraftRefusal::Faulty { place, fault })?;
     }
     Ok(())
-}
-
-// The cost of the composition at a place, or its fault with that place.
-fn cost_at<R: CostRule>(homes: &Composition, place: usize, rule: &R) -> Result<i64, DraftRefusal>
-    ensures { CostAt (R.CostRule.meaning rule.now (at_place homes.now.counts place)) place result }
-{
-    match rule.cost(&homes.at(place)) {
-        Ok(cost) => Ok(cost),
-        Err(fault) => Err(DraftRefusal::Faulty { place, fault }),
-    }
 }

@@ -10,13 +10,8 @@ impl Account {
     pub fn join(&mut self, number: u8) -> Result<(), JoinRefusal>
         ensures { Joined self.old number result self.new }
     {
-        let Ok(of) = DemandType::numbered(number) else {
-            return Err(JoinRefusal::NoSuchType);
-        };
-        let Ok(more) = self.homes.with_one(of) else {
-            return Err(JoinRefusal::Full);
-        };
-        self.homes = more;
+        let of = DemandType::try_from(number)?;
+        self.homes = self.homes.with_one(of)?;
         Ok(())
     }
 
@@ -24,13 +19,8 @@ impl Account {
     pub fn leave(&mut self, number: u8) -> Result<(), LeaveRefusal>
         ensures { Departed self.old number result self.new }
     {
-        let Ok(of) = DemandType::numbered(number) else {
-            return Err(LeaveRefusal::NoSuchType);
-        };
-        let Some(fewer) = self.homes.without_one(of) else {
-            return Err(LeaveRefusal::NoneThere);
-        };
-        self.homes = fewer;
+        let of = DemandType::try_from(number)?;
+        self.homes = self.homes.without_one(of).ok_or(LeaveRefusal::NoneThere)?;
         Ok(())
     }
 }

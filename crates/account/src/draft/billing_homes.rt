@@ -1,6 +1,6 @@
 // Making bills out of a table of costs.
-ghost use Rattle.std.specs.Prelude.{◌≡◌, ℕ, ◌*◌, ◌^◌, ◌<◌, ◌≤◌, length, pos, slice_index_or};
-ghost use Rattle.composition.specs.Amounts.{Between};
+ghost use Rattle.std.specs.Prelude.{◌≡◌, ℕ, ◌*◌, ◌<◌, ◌≤◌, length, pos, slice_index_or};
+ghost use Rattle.billing.specs.Billing.{Small};
 ghost use Rattle.composition.specs.Counts.{size, total, count};
 ghost use Rattle.composition.specs.Types.{position};
 ghost use Rattle.cost_rules.specs.Limits.{Within};
@@ -8,12 +8,12 @@ ghost use Rattle.shapley.specs.CommonMultiple.{lcm_to};
 ghost use Rattle.shapley.specs.CostTables.{costs_by, cost_in};
 ghost use Rattle.shapley.specs.Shares.{share};
 ghost use Rattle.account.specs.Bills.{Billed};
-ghost use Rattle.account.specs.Charges.{Charged, lined};
+ghost use Rattle.account.specs.Charges.{Charged, lined, pence_of};
 ghost use Rattle.account.specs.Terms.{today};
 
 use super::Draft;
 use crate::account::Account;
-use billing::{Charges, settle};
+use billing::Charges;
 use composition::DemandType;
 use rounding::{Divisor, round_up};
 use shapley::{CostTable, lcm_to};
@@ -34,32 +34,26 @@ impl Draft {
         };
         let lcm = lcm_to(&homes);
         let penny = penny_over(lcm);
-        let one = charge_for(&costs, DemandType::One, penny);
-        let two = charge_for(&costs, DemandType::Two, penny);
-        let three = charge_for(&costs, DemandType::Three, penny);
-        let four = charge_for(&costs, DemandType::Four, penny);
+        let charges = DemandType::ALL.map(|of| charge_for(&costs, of, penny));
         let cost = cost_of_all(&costs);
-        let pence = [one.pence, two.pence, three.pence, four.pence];
         let purse = account.purse();
-        let settled = settle(&Charges {
+        let settled = Charges {
             homes,
-            pence,
+            pence: charges.map(pence_of),
             cost,
             purse,
-        });
-        let rebate = settled.rebate;
+        }
+        .settle();
+        let rebate = Rebate {
+            pence: settled.rebate,
+        };
         Draft {
             account,
             lcm,
             cost: i64::from(cost),
-            rebate,
+            rebate: settled.rebate,
             purse: settled.purse,
-            lines: [
-                line(one, rebate),
-                line(two, rebate),
-                line(three, rebate),
-                line(four, rebate),
-            ],
+            lines: charges.map(|charge| line(charge, &rebate)),
         }
     }
 }
@@ -83,36 +77,40 @@ fn cost_of_all(costs: &CostTable<'_>) -> i32
 // What a home of a type is charged.
 #[derive(Clone, Copy)]
 pub(crate) struct Charge {
-    // over the least common multiple; none if there is no such home
-    share: Option<i64>,
+    // over the least common multiple
+    share: i64,
     // the share rounded up to whole pence
     pence: i32,
 }
 
-// The charge to a home of a type, where a penny is so many parts of a share.
-fn charge_for(costs: &CostTable<'_>, of: DemandType, penny: Divisor) -> Charge
+// The charge to a home of a type, if there is one, where a penny is so many parts of a share.
+fn charge_for(costs: &CostTable<'_>, of: DemandType, penny: Divisor) -> Option<Charge>
     requires { penny.value ≡ 100 * lcm_to (total costs.now.homes.counts) }
     ensures { Charged (count (position of) costs.now.homes.counts) (share costs.now.homes.counts (position of) (cost_in costs.now)) penny.value result }
 {
-    match costs.share(of) {
-        None => Charge {
-            share: None,
-            pence: 0,
-        },
-        Some(share) => Charge {
-            share: Some(share),
-            pence: round_up(share, penny) as i32,
-        },
-    }
+    let share = costs.share(of)?;
+    let pence = round_up(share, penny) as i32;
+    Some(Charge { share, pence })
+}
+
+// The pence charged to each home of a type; without homes they count for none.
+fn pence_of(charge: Option<Charge>) -> i32
+    ensures { result ≡ pence_of charge }
+{
+    charge.map_or(0, |charge| charge.pence)
+}
+
+// What every home is given back, in whole pence: so little that a bill less of it is still a number of 64 bits.
+#[derive(Clone, Copy)]
+struct Rebate {
+    pence: i64,
+    ghost small: { Small pence },
 }
 
 // The line for a charge: the share, and the bill after the rebate.
-fn line(charge: Charge, rebate: i64) -> Option<(i64, i64)>
-    requires { Between (2 ^ 48) rebate }
-    ensures { result ≡ lined charge rebate }
+fn line(charge: Option<Charge>, rebate: &Rebate) -> Option<(i64, i64)>
+    ensures { result ≡ lined charge rebate.now.pence }
 {
-    match charge.share {
-        None => None,
-        Some(share) => Some((share, charge.pence as i64 - rebate)),
-    }
+    let charge = charge?;
+    Some((charge.share, i64::from(charge.pence) - rebate.pence))
 }

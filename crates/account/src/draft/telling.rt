@@ -10,7 +10,7 @@ impl Draft {
     pub fn line(&self, number: u8) -> Result<Option<(i64, i64)>, NoSuchType>
         ensures { LineRead self.now number result }
     {
-        let of = DemandType::numbered(number)?;
+        let of = DemandType::try_from(number)?;
         Ok(self.lines[of.position()])
     }
 

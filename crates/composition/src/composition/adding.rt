@@ -10,6 +10,7 @@ impl Composition {
         ensures value { result ≡ weighted self.now.counts amounts.now }
         ensures size { Between (4 * (255 * 2 ^ 31)) result }
     {
+        // four products and no iterator: that a sum of signed numbers fits is shown product by product either way, and this is no longer
         let [a, b, c, d] = self.counts;
         let first = product(a, amounts[0]);
         let second = product(b, amounts[1]);

@@ -32,11 +32,9 @@ impl Composition {
     pub fn without_one(&self, fewer: DemandType) -> Option<Composition>
         ensures { Without (position fewer) self.now.counts result }
     {
-        if self.count(fewer) == 0 {
-            return None;
-        }
+        let left = self.count(fewer).checked_sub(1)?;
         let mut counts = self.counts;
-        counts[fewer.position()] -= 1;
+        counts[fewer.position()] = left;
         Some(Composition { counts })
     }
 }

@@ -42,6 +42,5 @@ impl Composition {
 fn homes_in(counts: &[u8; 4]) -> u16
     ensures { result ≡ total counts.now }
 {
-    let [a, b, c, d] = *counts;
-    u16::from(a) + u16::from(b) + u16::from(c) + u16::from(d)
+    counts.iter().map(|count| *count as u16).sum()
 }

@@ -11,6 +11,7 @@ impl Composition {
     pub fn size(&self) -> usize
         ensures { result ≡ size self.now.counts }
     {
+        // no iterator: the bound on a product of numbers from a list would have to be shown by hand
         let [a, b, c, d] = self.counts;
         (a as usize + 1) * ((b as usize + 1) * ((c as usize + 1) * (d as usize + 1)))
     }
@@ -21,10 +22,10 @@ impl Composition {
         ensures only { result ≡ true → Inside self.now.counts inside.now.counts }
         ensures always { Inside self.now.counts inside.now.counts → result ≡ true }
     {
-        let [a, b, c, d] = self.counts;
-        let [w, x, y, z] = inside.counts;
-        // `&` has no branch, so that the proof has one way
-        (a <= w) & ((b <= x) & ((c <= y) & (d <= z)))
+        self.counts
+            .iter()
+            .zip(&inside.counts)
+            .all(|(count, most)| count <= most)
     }
 
     // The place of a group inside this one.

@@ -1,5 +1,5 @@
 // Making a head rule.
-ghost use Rattle.cost_rules.specs.Heads.{HeadMade, Accepts};
+ghost use Rattle.cost_rules.specs.Heads.{HeadMade};
 
 use super::HeadRule;
 use crate::refusals::FeeOutside;
@@ -13,21 +13,11 @@ impl HeadRule {
     pub fn new(fees: [i32; 4]) -> Result<HeadRule, FeeOutside>
         ensures { HeadMade fees result }
     {
-        let [one, two, three, four] = fees;
-        accept(one, DemandType::One)?;
-        accept(two, DemandType::Two)?;
-        accept(three, DemandType::Three)?;
-        accept(four, DemandType::Four)?;
+        for of in DemandType::ALL {
+            if !(-LIMIT..=LIMIT).contains(&fees[of.position()]) {
+                return Err(FeeOutside { of });
+            }
+        }
         Ok(HeadRule { fees })
     }
-}
-
-// Refuses a fee outside the limits, and names its type.
-fn accept(fee: i32, of: DemandType) -> Result<(), FeeOutside>
-    ensures { Accepts fee of result }
-{
-    if fee < -LIMIT || fee > LIMIT {
-        return Err(FeeOutside { of });
-    }
-    Ok(())
 }

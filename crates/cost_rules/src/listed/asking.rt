@@ -16,10 +16,8 @@ impl CostRule for ListedRule<'_> {
 
     fn cost(&self, of: &Composition) -> Result<i64, Fault> {
         if !of.fits(&self.largest) {
-            return Err(Fault {
-                number: 11,
-                rung: 0,
-            });
+            // a group outside the box
+            return Err(Fault::own(11));
         }
         let place = self.largest.place(of);
         Ok(i64::from(self.table[place]))

@@ -2,7 +2,7 @@
 ghost use Rattle.cost_rules.specs.Filled.{Filled, BuiltIn, FirstOutside};
 
 use super::ListedRule;
-use crate::pricing::LIMIT;
+use crate::pricing::price;
 use crate::refusals::ListedRefusal;
 use composition::Composition;
 
@@ -23,9 +23,7 @@ impl<'a> ListedRule<'a> {
     pub fn fill(&mut self, largest: [u8; 4], table: &'a [i32]) -> Result<(), ListedRefusal>
         ensures { Filled largest table.now self.old result self.new }
     {
-        let Ok(largest) = Composition::new(largest) else {
-            return Err(ListedRefusal::BoxTooLarge);
-        };
+        let largest = Composition::new(largest)?;
         if table.len() != largest.size() {
             return Err(ListedRefusal::WrongLength);
         }
@@ -44,10 +42,7 @@ impl<'a> ListedRule<'a> {
 fn first_outside(table: &[i32]) -> Option<usize>
     ensures { FirstOutside table.now result }
 {
-    for (place, cost) in table.iter().enumerate() {
-        if *cost < -LIMIT || *cost > LIMIT {
-            return Some(place);
-        }
-    }
-    None
+    table
+        .iter()
+        .position(|&cost| price(i64::from(cost)).is_err())
 }

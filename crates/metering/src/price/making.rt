@@ -12,7 +12,7 @@ impl Price {
     pub(crate) fn new(value: i64) -> Result<Price, PriceOutside>
         ensures { PriceMade value result }
     {
-        if value < 0 || value > MOST {
+        if !(0..=MOST).contains(&value) {
             return Err(PriceOutside);
         }
         Ok(Price {

@@ -1,15 +1,15 @@
 // The period check: every word where it belongs, and within its limits.
-ghost use Rattle.std.specs.Prelude.{◌≡◌, ◌<◌};
-ghost use Rattle.period.specs.Along.{Passes, Checked, Closes, may_or_must};
-ghost use Rattle.period.specs.Labels.{Proper, span};
+ghost use Rattle.std.specs.Prelude.{◌≡◌, true, false};
+ghost use Rattle.period.specs.Along.{Passes, Checked, Closes, amounts};
 ghost use Rattle.period.specs.Reader.{rating, demands, entry, later};
 ghost use Rattle.period.specs.declared.refusals.Part.TheVariants.{Closing};
 
 use super::Cursor;
-use crate::kinds::CLOSING;
+use crate::kinds::{Field, Kind};
+use crate::label::Label;
 use crate::refusals::{Part, PeriodRefusal};
 use crate::slot::*;
-use crate::words::{kind, value};
+use crate::words::{is_of, value};
 
 impl Cursor<'_> {
     // The battery's words. The highest charge must be no lower than the lowest.
@@ -18,8 +18,10 @@ impl Cursor<'_> {
     {
         let lowest = self.word(LOWEST)?;
         self.word(Slot {
+            part: Part::Battery,
+            label: Label::Field(Field::Highest),
             least: lowest,
-            ..HIGHEST
+            most: MOST_CHARGE,
         })?;
         self.word(MOST)?;
         self.word(CHARGING)?;
@@ -27,17 +29,30 @@ impl Cursor<'_> {
         Ok(())
     }
 
-    // A tariff, which only the first half-hour must have.
-    fn tariff(&mut self, slot: Slot, first: bool) -> Result<(), PeriodRefusal>
-        requires proper { Proper slot.label }
-        requires fits { slot.most < span slot.label }
-        ensures { Passes (may_or_must first slot) self.old result self.new }
+    // The first half-hour, which must have both tariffs.
+    fn first_half_hour(&mut self, types: u32) -> Result<(), PeriodRefusal>
+        ensures { Passes (entry true types) self.old result self.new }
     {
-        if first {
-            self.word(slot)?;
-        } else {
-            self.take(slot);
-        }
+        self.word(IMPORT)?;
+        self.word(EXPORT)?;
+        self.amounts(types)
+    }
+
+    // A later half-hour, which may leave its tariffs out.
+    fn later_half_hour(&mut self, types: u32) -> Result<(), PeriodRefusal>
+        ensures { Passes (entry false types) self.old result self.new }
+    {
+        self.take(IMPORT);
+        self.take(EXPORT);
+        self.amounts(types)
+    }
+
+    // The amounts that every half-hour has: a demand for each type, and its generation.
+    fn amounts(&mut self, types: u32) -> Result<(), PeriodRefusal>
+        ensures { Passes (amounts types) self.old result self.new }
+    {
+        self.demands(types)?;
+        self.word(GENERATION)?;
         Ok(())
     }
 
@@ -51,23 +66,12 @@ impl Cursor<'_> {
         Ok(())
     }
 
-    // A half-hour; the first must have both tariffs.
-    fn half_hour(&mut self, first: bool, types: u32) -> Result<(), PeriodRefusal>
-        ensures { Passes (entry first types) self.old result self.new }
-    {
-        self.tariff(IMPORT, first)?;
-        self.tariff(EXPORT, first)?;
-        self.demands(types)?;
-        self.word(GENERATION)?;
-        Ok(())
-    }
-
     // So many half-hours after the first.
     fn later(&mut self, count: u32, types: u32) -> Result<(), PeriodRefusal>
         ensures { Passes (later count types) self.old result self.new }
     {
         for _ in 0..count {
-            self.half_hour(false, types)?;
+            self.later_half_hour(types)?;
         }
         Ok(())
     }
@@ -79,7 +83,7 @@ impl Cursor<'_> {
         let [last, rest @ ..] = self.rest else {
             return Err(closing(self.place));
         };
-        if kind(*last) != CLOSING || value(*last) as usize != self.place {
+        if !is_of(*last, Kind::Closing) || value(*last) as usize != self.place {
             return Err(closing(self.place));
         }
         if !rest.is_empty() {
@@ -97,7 +101,7 @@ pub(crate) fn check(words: &[u32]) -> Result<(), PeriodRefusal>
     let half_hours = cursor.word(LENGTH)?;
     let types = cursor.word(TYPES)?;
     cursor.rating()?;
-    cursor.half_hour(true, types)?;
+    cursor.first_half_hour(types)?;
     cursor.later(half_hours - 1, types)?;
     cursor.close()
 }

@@ -2,10 +2,12 @@
 ghost use Rattle.std.specs.Prelude.{◌≡◌};
 ghost use Rattle.period.specs.Filled.{page};
 ghost use Rattle.period.specs.InForce.{readings};
+ghost use Rattle.period.specs.Labels.{field_in};
 ghost use Rattle.period.specs.Pages.{Page, Writes};
 ghost use Rattle.period.specs.Told.{left_in};
 
 use super::Period;
+use crate::kinds::Field;
 use crate::reading::Tariffs;
 use crate::readings::Readings;
 use crate::words::{field_value, value};
@@ -32,6 +34,13 @@ impl<'a> Period<'a> {
         value(self.words[TYPES_AT]) as u8
     }
 
+    // What its battery's rating has for a field.
+    fn field(&self, field: Field) -> u32
+        ensures { result ≡ field_in field (page self.now).rating }
+    {
+        field_value(self.words[BATTERY_AT + field as usize])
+    }
+
     // Its battery, as it is for one home.
     pub fn battery(&self) -> Battery
         ensures value { result.rating ≡ (page self.now).rating }
@@ -39,11 +48,11 @@ impl<'a> Period<'a> {
     {
         Battery {
             rating: Rating {
-                lowest: field_value(self.words[BATTERY_AT]),
-                highest: field_value(self.words[BATTERY_AT + 1]),
-                most: field_value(self.words[BATTERY_AT + 2]),
-                charging: field_value(self.words[BATTERY_AT + 3]),
-                discharging: field_value(self.words[BATTERY_AT + 4]),
+                lowest: self.field(Field::Lowest),
+                highest: self.field(Field::Highest),
+                most: self.field(Field::Most),
+                charging: self.field(Field::Charging),
+                discharging: self.field(Field::Discharging),
             },
         }
     }

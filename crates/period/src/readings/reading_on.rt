@@ -1,65 +1,76 @@
 // Reading one half-hour after another.
-ghost use Rattle.std.specs.Prelude.{◌≡◌, drop, if◌then◌else◌};
-ghost use Rattle.period.specs.Told.{ReadOn};
-ghost use Rattle.period.specs.Unread.{tariff_in, past, first_value};
+ghost use Rattle.std.specs.Prelude.{◌≡◌, ◌≤◌, drop};
+ghost use Rattle.period.specs.Labels.{kind_number};
+ghost use Rattle.period.specs.Limits.{most_types};
+ghost use Rattle.period.specs.Unread.{tariff_in, past, first_value, demands_in};
 
 use super::Readings;
-use crate::kinds::{EXPORT, IMPORT};
+use crate::kinds::Kind;
 use crate::reading::{Reading, Tariffs};
-use crate::words::{kind, value};
+use crate::words::{is_of, value};
 
-impl<'a> Readings<'a> {
-    // The next half-hour, if there is one.
-    pub fn next(&mut self) -> Option<Reading>
-        ensures { ReadOn self.old result self.new }
-    {
-        if self.left == 0 {
-            return None;
-        }
-        let (import, rest) = tariff(self.rest, IMPORT, self.tariffs.import);
-        let (export, rest) = tariff(rest, EXPORT, self.tariffs.export);
-        let (one, rest) = demand(rest, self.types > 0);
-        let (two, rest) = demand(rest, self.types > 1);
-        let (three, rest) = demand(rest, self.types > 2);
-        let (four, rest) = demand(rest, self.types > 3);
-        let (generation, rest) = first(rest);
-        self.rest = rest;
-        self.left -= 1;
-        self.tariffs = Tariffs { import, export };
+impl Iterator for Readings<'_> {
+    ghost use Rattle.std.specs.Iterator.{at_most};
+    ghost use Rattle.period.specs.Told.{ReadOn};
+
+    type Item = Reading;
+
+    ghost next_gives = { ReadOn };
+
+    // the half-hours that are left
+    ghost remaining = { λ readings. at_most readings.left };
+
+    fn next(&mut self) -> Option<Reading> {
+        self.left = self.left.checked_sub(1)?;
+        self.tariffs = Tariffs {
+            import: tariff(&mut self.rest, Kind::Import, self.tariffs.import),
+            export: tariff(&mut self.rest, Kind::Export, self.tariffs.export),
+        };
         Some(Reading {
             tariffs: self.tariffs,
-            demands: [one, two, three, four],
-            generation,
+            demands: demands(&mut self.rest, self.types),
+            generation: first(&mut self.rest),
         })
     }
 }
 
-// The tariff that the first word gives if it is of its kind, else the one before; and what is left.
-fn tariff(words: &[u32], wanted: u32, before: u32) -> (u32, &[u32])
-    ensures tariff { result.0 ≡ tariff_in wanted before words.now }
-    ensures left { result.1.now ≡ past wanted words.now }
+// The tariff that the first word gives if it is of its kind, else the one before.
+fn tariff(words: &mut &[u32], wanted: Kind, before: u32) -> u32
+    ensures tariff { result ≡ tariff_in (kind_number wanted) before words.old.now }
+    ensures left { words.new.now ≡ past (kind_number wanted) words.old.now }
 {
-    match words {
-        [head, rest @ ..] if kind(*head) == wanted => (value(*head), rest),
-        _ => (before, words),
+    match *words {
+        [head, rest @ ..] if is_of(*head, wanted) => {
+            *words = rest;
+            value(*head)
+        }
+        _ => before,
     }
 }
 
-// The demand of a type, which is given or is 0, and what is left.
-fn demand(words: &[u32], given: bool) -> (u32, &[u32])
-    ensures value { result.0 ≡ (if given then first_value words.now else 0) }
-    ensures left { result.1.now ≡ (if given then drop 1 words.now else words.now) }
+// The demand of each type, 0 for those without readings.
+fn demands(words: &mut &[u32], types: u8) -> [u32; 4]
+    requires { types ≤ most_types }
+    ensures demands { result ≡ demands_in most_types types words.old.now }
+    ensures left { words.new.now ≡ drop types words.old.now }
 {
-    if given { first(words) } else { (0, words) }
+    let mut demands = [0; 4];
+    for demand in &mut demands[..types as usize] {
+        *demand = first(words);
+    }
+    demands
 }
 
-// The first word's value, and what is left.
-fn first(words: &[u32]) -> (u32, &[u32])
-    ensures value { result.0 ≡ first_value words.now }
-    ensures left { result.1.now ≡ drop 1 words.now }
+// The first word's value.
+fn first(words: &mut &[u32]) -> u32
+    ensures value { result ≡ first_value words.old.now }
+    ensures left { words.new.now ≡ drop 1 words.old.now }
 {
-    match words {
-        [head, rest @ ..] => (value(*head), rest),
-        [] => (0, words),
+    match *words {
+        [head, rest @ ..] => {
+            *words = rest;
+            value(*head)
+        }
+        [] => 0,
     }
 }

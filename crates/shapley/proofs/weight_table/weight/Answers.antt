@@ -1,17 +1,19 @@
-use Rattle.std.proofs.Common.{arith}
-use Rattle.shapley.specs.Weights.{HasWeight}
-use Rattle.shapley.proofs.Weights.{weights_are_exact}
+use Rattle.std.proofs.Common.{arith, rules}
+use borrow.Author.Tests.{tests}
+use Rattle.std.proofs.lemmas.Bool.Decides.{nat_tests}
+use Rattle.shapley.proofs.Weights.{looked_up, weights_are_exact}
 use Rattle.shapley.proofs.weight_table.weight.Goals as goal
+use Rattle.shapley.proofs.weight_table.weight.Goals.{then-homes-le24, else-homes-le24}
 
-pub returns-then-homes-gt24 : goal.returns-then-homes-gt24
-returns-then-homes-gt24 c = record { entry = λ h. omega arith; rule = weights_are_exact }
+pub returns-clause-entry : goal.returns-clause-entry
+returns-clause-entry c =
+    looked_up c.args.homes c.args.others c.then.result
+    (λ some. elim c.if-homes-le24.branch [
+      | then-homes-le24 w ↦ grind (arith, nat_tests, c.then.ensures.variant)
+      | else-homes-le24 w ↦ search (rules, tests)
+    ])
+    (λ has. elim c.if-homes-le24.branch [ then-homes-le24 w ↦ grind (arith, nat_tests, c.then.ensures.variant) | else-homes-le24 w ↦ absurd (omega arith) ])
+    (search rules)
 
-pub returns : goal.returns
-returns c =
-    let n = c.args.homes in
-    let j = c.args.others in
-    let has : HasWeight n j = (omega arith, c.if-homes-gt24.false, c.if-others-homes.false) in
-    record {
-      entry = (has, omega (arith, c.entry.ensures), rw c.entry.ensures (omega (arith, weights_are_exact n j has)));
-      rule = weights_are_exact;
-    }
+pub returns-clause-rule : goal.returns-clause-rule
+returns-clause-rule c = weights_are_exact

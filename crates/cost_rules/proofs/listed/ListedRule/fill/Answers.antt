@@ -4,5 +4,5 @@ use Rattle.cost_rules.proofs.listed.ListedRule.fill.Goals as goal
 
 pub bounds-table-0 : goal.bounds-table-0
 bounds-table-0 c =
-    let some : 0 < length c.args.table.now = omega (arith, size_above_none c.in-Ok.largest.counts, c.size.ensures, c.if-table-size.false) in
+    let some : 0 < length c.args.table.now = omega (arith, size_above_none c.in_ok-largest.largest.counts, c.size.ensures, c.if-table-size.false) in
     search rules

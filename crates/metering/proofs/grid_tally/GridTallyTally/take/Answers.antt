@@ -1,24 +1,12 @@
-use Rattle.std.proofs.Common.{arith}
+use Rattle.std.proofs.Common.{◌≡◌, ◌+◌, ◌*◌, pos, ◌+ℤ◌, ◌-ℤ◌, ap, arith}
 use Rattle.std.proofs.lemmas.Int.{ints}
-use Rattle.metering.proofs.Tallying.{adds_little, same_cost}
+use Rattle.std.specs.Int.{int_div_euclid}
+use Rattle.metering.specs.Grid.{amount, grid_sum}
 use Rattle.metering.proofs.grid_tally.GridTallyTally.take.Goals as goal
 
-pub overflow_add-self : goal.overflow_add-self
-overflow_add-self c =
+pub returns-clause-taken : goal.returns-clause-taken
+returns-clause-taken c hs =
+    let t = c.args.so_far in
     let h = c.args.half.now in
-    record { fits = omega (arith, adds_little h.import h.tariffs.import c.requires.small.import_small c.requires.small.import_tariff, c.requires.spare.1.0) }
-
-pub overflow_add-self-2 : goal.overflow_add-self-2
-overflow_add-self-2 c =
-    let h = c.args.half.now in
-    record { fits = omega (arith, adds_little h.export h.tariffs.export c.requires.small.export_small c.requires.small.export_tariff, c.requires.spare.1.1) }
-
-pub returns : goal.returns
-returns c =
-    let h = c.args.half.now in
-    let i = adds_little h.import h.tariffs.import c.requires.small.import_small c.requires.small.import_tariff in
-    let x = adds_little h.export h.tariffs.export c.requires.small.export_small c.requires.small.export_tariff in
-    record {
-      taken = λ halves. same_cost _ _ (omega (arith, ints));
-      less = λ n room. (omega (arith, i, room.0), omega (arith, x, room.1));
-    }
+    let same : (pos (t.paid + h.import * h.tariffs.import) -ℤ pos (t.earned + h.export * h.tariffs.export)) +ℤ grid_sum hs ≡ (pos t.paid -ℤ pos t.earned) +ℤ (amount h +ℤ grid_sum hs) = omega (arith, ints) in
+    rw (c.from.ensures, c.from-2.ensures, c.from-3.ensures, c.from-4.ensures) (ap (λ z. int_div_euclid z (pos 1000)) same)

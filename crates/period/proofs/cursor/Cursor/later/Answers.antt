@@ -7,17 +7,17 @@ use Rattle.period.proofs.cursor.Cursor.later.Goals as goal
 pub loop-init : goal.loop-init
 loop-init c = none_yet (entry false c.args.types) c.args.count c.args.self.now
 
-pub returns-in_err-half_hour : goal.returns-in_err-half_hour
-returns-in_err-half_hour c =
+pub returns-in_err-later_half_hour : goal.returns-in_err-later_half_hour
+returns-in_err-later_half_hour c =
     let answer = err_from_is_err_and c.from_residual.result c.from_residual.ensures.1 in
     rw (answer.1, answer.2)
     (one_refused (entry false c.args.types) c.args.count c.loop.counter c.args.self.now c.loop.self _ (omega (arith, c.loop-test.true)) c.loop.invariant
-    c.in_err-half_hour.ensures)
+    c.in_err-later_half_hour.ensures)
 
 pub loop-preserved : goal.loop-preserved
 loop-preserved c =
-    let read = c.in_ok-half_hour.ensures in
-    one_more (entry false c.args.types) c.args.count c.loop.counter c.args.self.now c.loop.self c.half_hour.new.self read.0
+    let read = c.in_ok-later_half_hour.ensures in
+    one_more (entry false c.args.types) c.args.count c.loop.counter c.args.self.now c.loop.self c.later_half_hour.new.self read.0
     (omega (arith, c.loop-test.true)) c.loop.invariant read.1
 
 pub returns : goal.returns

@@ -19,7 +19,7 @@ returns c =
     let t : ℕ = c.in_ok-half_hours.half_hours in
     let k : ℕ = c.in_ok-types.types in
     let b = c.in_ok-rating.ensures in
-    let e = c.in_ok-half_hour.ensures in
+    let e = c.in_ok-first_half_hour.ensures in
     let es = c.in_ok-later.ensures in
     let start : read c.args.words.now ≡ from period c.over-cursor.result = rw (c.over-cursor.ensures.words_are, c.over-cursor.ensures.place_is) in
     closed c.args.words.now c.later.new.self (record { types = k; rating = b.0; entries = e.0 ∷ es.0 }) c.close.result

@@ -1,0 +1,41 @@
+// Homes that join an account.
+ghost use Rattle.std.specs.Prelude.{IfOk};
+ghost use Rattle.narration.specs.Story.{Been, GoesOn};
+
+use account::Account;
+use refusal::Refusal;
+use std::io;
+
+// A new account that four homes would join, the last of them of a type that there is not.
+pub(crate) fn open_and_join(rt: &impl Print) -> io::Result<Account>
+    ensures { IfOk result (Been 0) }
+{
+    let mut account = Account::open_after(0);
+    println!(rt; "An account is opened. Its last bill has the number 0.")?;
+    for number in [1, 1, 2, 5] {
+        join(rt, &mut account, number)?;
+    }
+    show_account(rt, &account)?;
+    Ok(account)
+}
+
+fn join(rt: &impl Print, account: &mut Account, number: u8) -> io::Result<()>
+    ensures { GoesOn account.old account.new }
+{
+    match account.join(number) {
+        Ok(()) => println!(rt; "A home of type {number} joins."),
+        Err(refusal) => println!(rt;
+            "A home of type {number} would join. Refused, number {}: {refusal}.",
+            refusal.number()
+        ),
+    }
+}
+
+pub(crate) fn show_account(rt: &impl Print, account: &Account) -> io::Result<()> {
+    let [one, two, three, four] = account.homes().counts();
+    let purse = account.purse();
+    let last = account.last();
+    println!(rt;
+        "  The account has {one}, {two}, {three} and {four} homes of types 1 to 4, {purse} in its purse, and last bill number {last}."
+    )
+}

@@ -1,6 +1,0 @@
-use Rattle.std.proofs.Common.{◌/◌}
-use Rattle.std.proofs.lemmas.Nat.{and_mask}
-use Rattle.period.proofs.words.field.Goals as goal
-
-pub returns : goal.returns
-returns c = and_mask (c.args.word / 16777216) 4

@@ -1,0 +1,45 @@
+-- In how many ways a group can be picked, as a chain over the types multiplies it up.
+use Rattle.std.proofs.Common.{le_refl, ◌≡◌, ℕ, zero, suc, ◌*◌, ◌^◌, ◌<◌, ◌≤◌, List, [], ◌∷◌, map, length, take, get_or, fold, sym, ◌∙◌, le_trans, le-mul_of_pos_right, mul_assoc, mul-one, mul-le-mul, pow-add, arith}
+use native.Mathlib.Nat.{one-le-pow}
+use Rattle.shapley.proofs.Combinatorics.{choose_le_power}
+use Rattle.std.specs.Array.Iter.{array_into_iter_items, array_steps}
+use Rattle.std.specs.Iterator.Adapters.{zip_first, zip_second}
+use Rattle.std.specs.List.{zip}
+use Rattle.std.proofs.lemmas.Iterator.{YieldsList, YieldsList-from_zip, zips}
+use Rattle.std.proofs.lemmas.Iterator.Consumers.{YieldsList-from_shown}
+use Rattle.composition.specs.Counts.{most, total, Inside}
+use Rattle.shapley.specs.Combinations.{choose, ways}
+
+-- a chain over two arrays, entry beside entry
+pub paired : {n : ℕ} {s : _} (ms ns : List ℕ) → array_into_iter_items (zip_first s) ≡ ms → array_into_iter_items (zip_second s) ≡ ns
+    → YieldsList (zips (array_steps {A = ℕ} {n = n}) (array_steps {A = ℕ} {n = n})) (λ p. (p.0, p.1)) s (zip ms ns)
+paired ms ns e f = YieldsList-from_zip (entries ms e) (entries ns f)
+  where
+    entries : {n : ℕ} {s : _} (xs : List ℕ) → array_into_iter_items s ≡ xs → YieldsList (array_steps {A = ℕ} {n = n}) (λ x. x) s xs
+    entries {s = s} xs e = rw e at (YieldsList-from_shown array_steps (λ x. x) array_into_iter_items (λ s t e. e.0) (λ s x t e. e) s)
+
+-- a type's others, and how many of them are picked
+abbrev pub pick : ℕ × ℕ → ℕ
+pick p = choose p.0 p.1
+
+-- each pick may be looked up
+pub picks_allowed : (ms ns : List ℕ) → total ms < most → Inside ns ms → (k : ℕ) (x : ℕ × ℕ) → k < length (zip ms ns) → x ≡ get_or (zip ms ns) k x → (x.0 < most) × (x.1 ≤ x.0)
+picks_allowed [] ns few inside k x below e = absurd (omega arith)
+picks_allowed (m ∷ ms) [] few inside k x below e = absurd (omega arith)
+picks_allowed (m ∷ ms) (n ∷ ns) few inside zero x below e = rw e (omega arith, inside.0)
+picks_allowed (m ∷ ms) (n ∷ ns) few inside (suc k) x below e = picks_allowed ms ns (omega arith) inside.1 k x (omega arith) e
+
+-- all together are the ways, from a on
+pub products : (a : ℕ) (ms ns : List ℕ) → length ms ≡ length ns → fold (λ b x. b * x) a (map pick (zip ms ns)) ≡ a * ways ms ns
+products a [] ns e = sym (mul-one a)
+products a (m ∷ ms) [] e = sym (mul-one a)
+products a (m ∷ ms) (n ∷ ns) e = products (a * choose m n) ms ns (omega arith) ∙ mul_assoc a (choose m n) (ways ms ns)
+
+-- and those of the first types are no more than the subsets of all
+pub products_small : (a k : ℕ) (ms ns : List ℕ) → fold (λ b x. b * x) a (take k (map pick (zip ms ns))) ≤ a * 2 ^ total ms
+products_small a zero ms ns = le-mul_of_pos_right a (one-le-pow (total ms) 2 (omega arith))
+products_small a (suc k) [] ns = le-mul_of_pos_right a (one-le-pow (total []) 2 (omega arith))
+products_small a (suc k) (m ∷ ms) [] = le-mul_of_pos_right a (one-le-pow (total (m ∷ ms)) 2 (omega arith))
+products_small a (suc k) (m ∷ ms) (n ∷ ns) =
+    le_trans (products_small (a * choose m n) k ms ns)
+    (rw (pow-add 2 m (total ms), ← mul_assoc a (2 ^ m) (2 ^ total ms)) (mul-le-mul (mul-le-mul (le_refl a) (choose_le_power m n)) (le_refl (2 ^ total ms))))
