@@ -7,7 +7,7 @@ ghost use Rattle.metering.specs.declared.half_hour.HalfHour.{HalfHour as Half};
 use crate::half_hour::HalfHour;
 
 // A tally is what a rule fixes beforehand. What it keeps of a walk is a value apart, and not its own type's terms: a rule that held such terms could not be copied.
-pub trait Tally: Copy {
+pub(crate) trait Tally: Copy {
     // What is kept of the half-hours that were taken so far.
     type SoFar: Copy;
 
