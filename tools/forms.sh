@@ -17,6 +17,7 @@ point '2 functions of one name' ''"$(git grep -hoE 'fn [a-z_]+' "$at" -- crates 
 point '3 loops that count, and hand-written next' 'for .* in .*\.\.|while |\bloop \{|\.enumerate\(\) \{|fn next\('
 point '4 answers passed on by hand' 'Ok\([a-z]*\) => Ok\([a-z]*\)|Ok\(\(\)\) => Ok|=> Err\(|let (Ok|Some)\(.*\) = .* else'
 point '4 conversions and texts by hand' 'fn (numbered|number|position|[a-z]+_reason)\('
+point '4 conversions by as' ' as [iu](8|16|32|64|128|size)\b'
 point '5 clauses that say one fact in many places' '^ +(requires|ensures).*(Between|Proper|span|255 \* most_moved|Within (left|right|result)|2 \^ (30|48|86)|lowered|count \(position of\) self|Inside )'
 point '6 buffers and parallel arrays' '^ +(pub(\([a-z]+\))? )?[a-z]+: (&.*)?\[.*\],'
 point '7 flags and switches for the next step' '[a-z]+: bool|fn [a-z]+_and_(post|withdraw)'

@@ -52,7 +52,7 @@ bill_of_charge :
     → ((c : Charge) → charge ≡ Some c → pence ≡ c.pence)
     → lined charge rebate ≡ Some line
     → RoundedUp line.0 penny pence × (line.1 ≡ pence -ℤ rebate)
-bill_of_charge homes h penny None pence rebate line charged is e = let z : ◌≡◌ {A = ℕ} 0 1 = cc in absurd (omega arith)
+bill_of_charge homes h penny None pence rebate line charged is e = cc
 bill_of_charge homes h penny (Some charge) pence rebate line charged is e =
     let same : (charge.share, charge.pence -ℤ rebate) ≡ line = cc in
     rw (is charge refl) (subst (λ (y : ℤ × ℤ). RoundedUp y.0 penny charge.pence) same charged.2, sym (ap (λ (y : ℤ × ℤ). y.1) same))

@@ -57,15 +57,6 @@ pub fill_broken :
     → FillEnds f counts before (Err (Faulty p fault)) after
 fill_broken f counts p before after fault within filled faulty = (fault_met f counts p fault within faulty, filled)
 
--- a table as it was taken is filled as far as the first place
-pub filled_none : (f : Meaning) (counts : List ℕ) (before after : List ℤ) → after ≡ before → FilledTo f counts 0 before after
-filled_none f counts before after same =
-    record {
-      costs = λ n inside below. absurd (omega (arith, below));
-      others = λ q beyond. ap (λ (xs : List ℤ). get_or xs q (pos 0)) same;
-      same_length = ap length same;
-    }
-
 -- in a table that is filled, the entry at a place is the cost of the composition there
 pub filled_at :
     (f : Meaning) (counts : List ℕ) (before after : List ℤ)

@@ -5,7 +5,7 @@ use Rattle.composition.specs.Counts.{nobody, count, raised, lowered}
 use Rattle.composition.specs.Types.{position, number_of}
 use Rattle.composition.specs.declared.demand_type.DemandType.{DemandType}
 use Rattle.composition.specs.declared.demand_type.DemandType.TheVariants.{One, Two, Three, Four}
-use Rattle.composition.proofs.Changes.{position_below}
+use Rattle.composition.proofs.Changes.{type_counted}
 use Rattle.account.specs.Calls.{Joined, Departed}
 use Rattle.account.specs.Runs.{Standing, account_of, Run, opens, joins, leaves, drafts, refused, posts, withdraws, taken, joins_taken, leaves_taken}
 use Rattle.account.specs.Terms.{Terms}
@@ -45,7 +45,7 @@ homes_of_type a k = count (position k) a.homes.counts
 joined_homes : (a b : Account) (number : ℕ) (r : Result (Unit {0}) JoinRefusal) → Joined a number r b → (k : DemandType) → homes_of_type b k ≡ homes_of_type a k + taken number r k
 joined_homes a b number (Ok done) (k₀, e, w) k =
     ap (count (position k)) w.homes_are
-    ∙ count_raised (position k₀) (position k) a.homes.counts (omega (arith, position_below k₀, a.homes.four))
+    ∙ count_raised (position k₀) (position k) a.homes.counts (type_counted k₀ a.homes)
     ∙ ap (λ (same : Bool). homes_of_type a k + cond same 1 0) (by_number number k₀ k e)
 joined_homes a b number (Err NoTypeToJoin) (n, e) k = rw e (omega arith)
 joined_homes a b number (Err Full) (k₀, n, t, e) k = rw e (omega arith)

@@ -55,6 +55,7 @@ impl Refusal for LeaveRefusal {
 impl Refusal for DraftRefusal {
     ghost known_by = { draft_number };
 
+    // No cast: a fault comes with its place.
     fn number(self) -> u8 {
         match self {
             DraftRefusal::NoHomes => 4,

@@ -8,18 +8,6 @@ use Rattle.battery.specs.declared.battery.Battery.{Battery}
 use Rattle.battery.specs.declared.rating.Rating.{Rating}
 use Rattle.battery.proofs.Quotients.{down_greatest, clipped, up_least}
 
--- what a battery was written with
-rated : (b : Battery) → Rated b.rating
-rated b = record {
-  ordered = b.ordered;
-  small = b.small;
-  slow = b.slow;
-  charges = b.charges;
-  stores = b.stores;
-  discharges = b.discharges;
-  yields = b.yields;
-}
-
 -- ---- the battery moves all that it can
 
 put_in_is : (b : Rating) (n charge d g : ℕ) → Rated b → Greatest (CanPutIn b n charge d g) (put_in b n charge d g)
@@ -81,7 +69,7 @@ pub answer_balanced :
     → y ≡ imported b.rating n charge d g
     → z ≡ exported b.rating n charge d g
     → Balanced b.rating n charge d g x y z
-answer_balanced b n charge d g x y z ex ey ez = rw (ex, ey, ez) (step_balanced b.rating n charge d g (rated b))
+answer_balanced b n charge d g x y z ex ey ez = rw (ex, ey, ez) (step_balanced b.rating n charge d g b.rated)
 
 -- without homes, charge, demand and generation nothing happens
 pub step_nobody : (b : Rating) → Rated b → (after b 0 0 0 0 ≡ 0) × (imported b 0 0 0 0 ≡ 0) × (exported b 0 0 0 0 ≡ 0)

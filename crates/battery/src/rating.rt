@@ -1,5 +1,5 @@
 // What the battery can do, for one home. Energy is in watt-hours.
-#[derive(Clone, Copy)]
+#[derive(Clone, Copy, Debug, PartialEq, Eq)]
 pub struct Rating {
     // the charge that it is never drawn below, and never filled above
     pub lowest: u32,

@@ -1,6 +1,8 @@
 -- Sums and products of amounts over the homes of a group: what they come to, and that they fit.
-use Rattle.std.proofs.Common.{◌≡◌, ℕ, suc, ◌+◌, ◌*◌, ◌^◌, ◌<◌, ◌≤◌, List, [], ◌∷◌, length, get_or, ℤ, pos, ◌+ℤ◌, ◌*ℤ◌, neg_ℤ, ◌≤ℤ◌, sym, ap, ◌∙◌, add-mul, mul-le-mul, arith, lit<, to_z-of_z, w32, w64, SFits, to_z, of_z}
+use Rattle.std.proofs.Common.{◌≡◌, ℕ, suc, ◌+◌, ◌*◌, ◌^◌, ◌<◌, ◌≤◌, List, [], ◌∷◌, length, get_or, ℤ, pos, negsuc, ◌+ℤ◌, ◌*ℤ◌, neg_ℤ, ◌≤ℤ◌, sym, ap, ◌∙◌, add-mul, mul-le-mul, arith, lit<, to_z-of_z, w32, w64, SFits, to_z, of_z}
 use lib.IntN.{+ℤ_idr, zero-*ℤ}
+use mir.Syntax.{Width}
+use mir.Val.{hbits}
 use Rattle.std.proofs.lemmas.Int.{ints}
 use Rattle.rounding.proofs.Integers.{scale_≤, *ℤ_negℤ}
 use Rattle.composition.specs.Amounts.{weighted, Between}
@@ -11,13 +13,15 @@ use Rattle.composition.proofs.Four.{split4}
 abbrev pub Read : ℤ → ℤ
 Read z = to_z w64 (of_z w64 z)
 
-pub between_fits : (m : ℕ) (z : ℤ) → m < 2 ^ 63 → Between m z → SFits w64 z
-between_fits m z h b = omega (arith, ints)
+-- what is between a bound and its negation fits a width that the bound fits
+pub between_fits : (w : Width) (b : ℕ) (z : ℤ) → b < 2 ^ hbits w → Between b z → SFits w z
+between_fits w b (pos n) h k = record { sfits = omega (arith, ints) }
+between_fits w b (negsuc n) h k = record { sfits = omega (arith, ints) }
 
 -- a sum of two that are read again
 pair_read : (m n : ℕ) (a b : ℤ) → m < 2 ^ 63 → n < 2 ^ 63 → Between m a → Between n b → (Read a +ℤ Read b ≡ a +ℤ b) × Between (m + n) (Read a +ℤ Read b)
 pair_read m n a b hm hn ba bb =
-    let e : Read a +ℤ Read b ≡ a +ℤ b = ap (λ (x : ℤ). x +ℤ Read b) (to_z-of_z (between_fits m a hm ba)) ∙ ap (λ (x : ℤ). a +ℤ x) (to_z-of_z (between_fits n b hn bb)) in
+    let e : Read a +ℤ Read b ≡ a +ℤ b = ap (λ (x : ℤ). x +ℤ Read b) (to_z-of_z (between_fits w64 m a hm ba)) ∙ ap (λ (x : ℤ). a +ℤ x) (to_z-of_z (between_fits w64 n b hn bb)) in
     (e, rw e (sum_between m n a b ba bb))
   where
     sum_between : (m n : ℕ) (a b : ℤ) → Between m a → Between n b → Between (m + n) (a +ℤ b)
@@ -36,10 +40,10 @@ sum_of_four a b c d ba bb bc bd =
     let two = pair_read 547608330240 547608330240 c d (lit< tt) (lit< tt) bc bd in
     let three = pair_read 547608330240 1095216660480 b (Read c +ℤ Read d) (lit< tt) (lit< tt) bb two.1 in
     let four = pair_read 547608330240 1642824990720 a (Read b +ℤ Read (Read c +ℤ Read d)) (lit< tt) (lit< tt) ba three.1 in
-    let fits = between_fits 2190433320960 (Read a +ℤ Read (Read b +ℤ Read (Read c +ℤ Read d))) (lit< tt) four.1 in
+    let fits = between_fits w64 2190433320960 (Read a +ℤ Read (Read b +ℤ Read (Read c +ℤ Read d))) (lit< tt) four.1 in
     record {
-      last_two = between_fits 1095216660480 _ (lit< tt) two.1;
-      last_three = between_fits 1642824990720 _ (lit< tt) three.1;
+      last_two = between_fits w64 1095216660480 _ (lit< tt) two.1;
+      last_three = between_fits w64 1642824990720 _ (lit< tt) three.1;
       all = fits;
       value = to_z-of_z fits ∙ four.0 ∙ ap (λ (x : ℤ). a +ℤ x) (three.0 ∙ ap (λ (x : ℤ). b +ℤ x) two.0);
       size = rw (to_z-of_z fits) four.1;

@@ -2,6 +2,7 @@
 use Rattle.std.proofs.Common.{◌≡◌, ℕ, zero, suc, ◌+◌, ◌-◌, ◌<◌, ◌≤◌, List, [], ◌∷◌, length, set, refl, ap, arith}
 use Rattle.composition.specs.Counts.{total, count, raised, lowered}
 use Rattle.composition.specs.Types.{position}
+use Rattle.composition.specs.declared.composition.Composition.{Composition}
 use Rattle.composition.specs.declared.demand_type.DemandType.{DemandType}
 use Rattle.composition.specs.declared.demand_type.DemandType.TheVariants.{One, Two, Three, Four}
 
@@ -10,6 +11,10 @@ position_below One = omega arith
 position_below Two = omega arith
 position_below Three = omega arith
 position_below Four = omega arith
+
+-- a composition has a count for each type
+pub type_counted : (k : DemandType) (homes : Composition) → position k < length homes.counts
+type_counted k homes = omega (arith, position_below k, homes.four)
 
 pub length_raised : (i : ℕ) (ns : List ℕ) → length (raised i ns) ≡ length ns
 length_raised i [] = refl
@@ -30,11 +35,6 @@ pub total_lowered : (i : ℕ) (ns : List ℕ) → 0 < count i ns → total (lowe
 total_lowered i [] h = absurd (omega arith)
 total_lowered zero (n ∷ ns) h = omega arith
 total_lowered (suc i) (n ∷ ns) h = let t : total (lowered i ns) + 1 ≡ total ns = total_lowered i ns h in omega arith
-
-pub count_le_total : (i : ℕ) (ns : List ℕ) → count i ns ≤ total ns
-count_le_total i [] = omega arith
-count_le_total zero (n ∷ ns) = omega arith
-count_le_total (suc i) (n ∷ ns) = let t : count i ns ≤ total ns = count_le_total i ns in omega arith
 
 -- as a program writes it: the count at the position goes up by one, the others stay
 pub set_raised : (i : ℕ) (ns : List ℕ) → set ns i (count i ns + 1) ≡ raised i ns

@@ -1,6 +1,6 @@
 -- Lists of four counts.
 use Rattle.std.proofs.Common.{◌≡◌, ℕ, zero, suc, ◌+◌, ◌*◌, ◌/◌, ◌%◌, ◌<◌, List, [], ◌∷◌, length, get_or, refl, add-zero, mul-zero, mul-one, arith}
-use Rattle.composition.specs.Counts.{total, size, place, at_place, step, Inside, nobody}
+use Rattle.composition.specs.Counts.{total, place, at_place, step, Inside, nobody}
 use Rattle.composition.specs.Types.{position}
 use Rattle.composition.specs.declared.demand_type.DemandType.{DemandType}
 use Rattle.composition.specs.declared.demand_type.DemandType.TheVariants.{One, Two, Three, Four}
@@ -16,9 +16,6 @@ split4 d (a ∷ (b ∷ (c ∷ (e ∷ (f ∷ xs))))) h = absurd (omega arith)
 
 pub total_four : (ns : List ℕ) → length ns ≡ 4 → total ns ≡ get_or ns 0 0 + get_or ns 1 0 + get_or ns 2 0 + get_or ns 3 0
 total_four ns h = rw (split4 0 ns h) (omega arith)
-
-pub size_four : (ns : List ℕ) → length ns ≡ 4 → size ns ≡ (get_or ns 0 0 + 1) * ((get_or ns 1 0 + 1) * ((get_or ns 2 0 + 1) * (get_or ns 3 0 + 1)))
-size_four ns h = rw (split4 0 ns h) (simp mul-one)
 
 pub place_four :
     (ms ns : List ℕ)

@@ -1,4 +1,5 @@
 pub mod Amounts
+pub mod Chains
 pub mod Changes
 pub mod Four
 pub mod Places

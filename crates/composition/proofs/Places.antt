@@ -1,5 +1,6 @@
 -- Places: every group inside another has one of its own, and every place below the size is some group's.
-use Rattle.std.proofs.Common.{◌≡◌, ℕ, zero, suc, ◌+◌, ◌*◌, ◌/◌, ◌%◌, ◌<◌, ◌≤◌, Bool, true, false, leb, List, [], ◌∷◌, length, slice_index, sym, refl, ap, mul_comm, mul-le-mul_left, mul-pos, mul-add, arith}
+use Rattle.std.proofs.Common.{◌≡◌, ℕ, zero, suc, ◌+◌, ◌*◌, ◌/◌, ◌%◌, ◌^◌, ◌<◌, ◌≤◌, Bool, true, false, leb, List, [], ◌∷◌, length, slice_index, sym, refl, ap, mul_comm, mul-le-mul, mul-le-mul_left, mul-pos, mul-add, pow-add, pow_mono, le_trans, arith}
+use native.Mathlib.Nat.{two-pow-succ}
 use Rattle.std.proofs.lemmas.Nat.{mod_below, div_below, div-add-mod', div-mul-add, mod-mul-add}
 use Rattle.std.proofs.lemmas.Bool.{and_parts, and_from, leb-true, le-leb}
 use Rattle.composition.specs.Counts.{total, size, fits, place, at_place, step, Inside, count, raised, lowered}
@@ -37,14 +38,6 @@ raised_inside zero (n ∷ ns) (m ∷ ms) p h = (omega (arith, h.0), h.1)
 raised_inside (suc i) [] (m ∷ ms) p h = absurd h
 raised_inside (suc i) (n ∷ ns) (m ∷ ms) p h = (h.0, raised_inside i ns ms p h.1)
 
--- no count is above that of the group outside
-pub inside_count : (i : ℕ) (ns ms : List ℕ) → Inside ns ms → count i ns ≤ count i ms
-inside_count i [] [] h = omega arith
-inside_count i [] (m ∷ ms) h = absurd h
-inside_count i (n ∷ ns) [] h = absurd h
-inside_count zero (n ∷ ns) (m ∷ ms) h = h.0
-inside_count (suc i) (n ∷ ns) (m ∷ ms) h = inside_count i ns ms h.1
-
 pub at_place_inside : (ms : List ℕ) (p : ℕ) → Inside (at_place ms p) ms
 at_place_inside [] p = tt
 at_place_inside (m ∷ ms) p =
@@ -63,6 +56,19 @@ place_below (m ∷ ms) (n ∷ ns) h =
 pub size_above_none : (ms : List ℕ) → 0 < size ms
 size_above_none [] = omega arith
 size_above_none (m ∷ ms) = mul-pos (omega arith) (size_above_none ms)
+
+count_le_power : (n : ℕ) → n + 1 ≤ 2 ^ n
+count_le_power zero = omega arith
+count_le_power (suc n) = let h : n + 1 ≤ 2 ^ n = count_le_power n in omega (arith, two-pow-succ n)
+
+-- there are no more groups than subsets of the homes
+size_le_power : (ms : List ℕ) → size ms ≤ 2 ^ total ms
+size_le_power [] = omega arith
+size_le_power (m ∷ ms) = rw (pow-add 2 m (total ms)) (mul-le-mul (count_le_power m) (size_le_power ms))
+
+-- so those of at most 24 homes are few enough for an index to be added to
+pub size_small : (ms : List ℕ) → total ms ≤ 24 → size ms ≤ 2 ^ 24
+size_small ms h = le_trans (size_le_power ms) (pow_mono h)
 
 -- the group at a place has that place
 pub place_at_place : (ms : List ℕ) (p : ℕ) → p < size ms → place ms (at_place ms p) ≡ p
@@ -97,8 +103,8 @@ place_raised (suc i) (m ∷ ms) (n ∷ ns) h e =
 -- the test tells what it is for a group to lie inside another
 pub fits_inside : (ns ms : List ℕ) → fits ns ms ≡ true → Inside ns ms
 fits_inside [] [] h = tt
-fits_inside [] (m ∷ ms) h = let z : ◌≡◌ {A = ℕ} 0 1 = cc in absurd (omega arith)
-fits_inside (n ∷ ns) [] h = let z : ◌≡◌ {A = ℕ} 0 1 = cc in absurd (omega arith)
+fits_inside [] (m ∷ ms) h = cc
+fits_inside (n ∷ ns) [] h = cc
 fits_inside (n ∷ ns) (m ∷ ms) h =
     let parts = and_parts (leb n m) (fits ns ms) h in
     (omega (arith, leb-true n m parts.0), fits_inside ns ms parts.1)

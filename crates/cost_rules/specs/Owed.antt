@@ -39,7 +39,7 @@ listed_limited box table whole within n four few c = go (fits n box) refl
         let same : entry ≡ c = cc in
         let below : place box n < length table = omega (arith, place_below box n (fits_inside n box inside), whole) in
         subst Within same (within (place box n) below)
-    go false inside e = let z : ◌≡◌ {A = ℕ} 0 1 = cc in absurd (omega arith)
+    go false inside e = cc
 
 -- ---- the head rule
 
@@ -67,16 +67,16 @@ priced_within a c = go (int_le (neg_ℤ (pos limit)) a) (int_le a (pos limit)) r
         → cond (low && high) (Ok a) (Err outside_limits) ≡ Ok c
         → Within c
     go true true l h e = let same : a ≡ c = cc in (omega (arith, ints), omega (arith, ints))
-    go true false l h e = let z : ◌≡◌ {A = ℕ} 0 1 = cc in absurd (omega arith)
-    go false high l h e = let z : ◌≡◌ {A = ℕ} 0 1 = cc in absurd (omega arith)
+    go true false l h e = cc
+    go false high l h e = cc
 
 pub sum_free : (f g : Meaning) → Free f → Free g → Free (sum_of f g)
 sum_free f g p q = rw (p, q)
 
 both_within : (x y : Result ℤ Fault) (c : ℤ) → both x y ≡ Ok c → Within c
 both_within (Ok a) (Ok b) c e = priced_within (a +ℤ b) c e
-both_within (Ok a) (Err g) c e = let z : ◌≡◌ {A = ℕ} 0 1 = cc in absurd (omega arith)
-both_within (Err f) y c e = let z : ◌≡◌ {A = ℕ} 0 1 = cc in absurd (omega arith)
+both_within (Ok a) (Err g) c e = cc
+both_within (Err f) y c e = cc
 
 pub sum_limited : (f g : Meaning) → Limited f → Limited g → Limited (sum_of f g)
 sum_limited f g p q n four few c e = both_within (f n) (g n) c e

@@ -22,6 +22,7 @@ pub enum ListedRefusal {
 impl Refusal for ListedRefusal {
     ghost known_by = { listed_number };
 
+    // No cast: one ground comes with its place.
     fn number(self) -> u8 {
         match self {
             ListedRefusal::BoxTooLarge => 31,

@@ -55,6 +55,7 @@ fn check<'a>(rt: &impl Print, period: &mut Period<'a>, words: &'a [u32]) -> io::
     }
 }
 
+// Printed here, and not by `Display`: a reading is another crate's type, and the words are the story's.
 fn show_readings(rt: &impl Print, period: &Period) -> io::Result<()> {
     for reading in period.readings() {
         let [one, two, _, _] = reading.demands;

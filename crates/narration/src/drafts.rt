@@ -1,5 +1,5 @@
-// Drafts, and how they end. An account, a rule and a table go side by side, as a draft takes them: it uses the account up, which so stands in no struct
-// with the other two.
+// Drafts, and how they end. An account, a rule and a table go side by side, as a draft takes them: a struct of the three would be made for one call, and
+// taken apart in it.
 ghost use Rattle.std.specs.Prelude.{IfOk, Ok, ◌≡◌};
 ghost use Rattle.account.specs.Calls.{Drafted};
 ghost use Rattle.account.specs.Terms.{today};
@@ -13,7 +13,7 @@ use cost_rules::CostRule;
 use refusal::Refusal;
 use std::io;
 
-// A draft, which is posted: the account goes on from there.
+// A draft, which is posted: the account goes on from there. Two calls, this and the next, since each promises what its end does; the rest is `draft_and`.
 pub fn draft_and_post<R: CostRule>(
     rt: &impl Print,
     account: Account,
@@ -78,6 +78,7 @@ fn draft<R: CostRule>(
     Ok(draft)
 }
 
+// Printed here, and not by `Display`: the draft is another crate's type, and the words are the story's.
 fn show_draft(rt: &impl Print, draft: &Draft) -> io::Result<()> {
     let homes = draft.homes().homes();
     let cost = draft.cost();

@@ -31,6 +31,7 @@ fn join(rt: &impl Print, account: &mut Account, number: u8) -> io::Result<()>
     }
 }
 
+// Printed here, and not by `Display`: the account is another crate's type, and the words are the story's.
 pub(crate) fn show_account(rt: &impl Print, account: &Account) -> io::Result<()> {
     let [one, two, three, four] = account.homes().counts();
     let purse = account.purse();

@@ -14,11 +14,8 @@ pub fn unless_refused<T: Drop, R: Refusal>(
     ensures taken { IfOk answer (λ value. result ≡ Ok value) }
     ensures refused { IfErr answer (λ _. IsErr result) }
 {
-    match answer {
-        Ok(value) => Ok(value),
-        Err(refusal) => {
-            println!(rt; "{attempt} Refused, number {}.", refusal.number())?;
-            Err(anyhow!("{error}"))
-        }
-    }
+    answer.or_else(|refusal| {
+        println!(rt; "{attempt} Refused, number {}.", refusal.number())?;
+        Err(anyhow!("{error}"))
+    })
 }

@@ -1,8 +1,10 @@
 -- The ring laws of ℤ, and how its order goes with sums and with products by a natural number.
 -- Each law is stated once, over plain variables, so that a proof cites it and never opens the cases of the signs.
-use Rattle.std.proofs.Common.{◌≡◌, ℕ, zero, suc, ◌*◌, ◌<◌, ℤ, pos, negsuc, ◌+ℤ◌, ◌-ℤ◌, ◌*ℤ◌, neg_ℤ, ◌≤ℤ◌, ◌<ℤ◌, sym, ap, ◌∙◌, arith}
+use Rattle.std.proofs.Common.{◌≡◌, ℕ, zero, suc, ◌*◌, ◌<◌, ℤ, pos, negsuc, ◌+ℤ◌, ◌-ℤ◌, ◌*ℤ◌, neg_ℤ, ◌≤ℤ◌, ◌<ℤ◌, ◌^◌, sym, ap, ◌∙◌, arith, to_z-of_z, to_z, of_z}
 use lib.IntN.{+ℤ_assoc, +ℤ_comm, *ℤ_comm, neg_ℤ-+ℤ, neg_ℤ-neg_ℤ, zero-*ℤ, *ℤ-zero, *ℤ-negsuc, suc_ℤ-*ℤ, pred_ℤ-*ℤ}
-use lib.Signed.{clash_ℤ}
+use lib.Signed.{clash_ℤ, mag}
+use mir.Syntax.{Width}
+use mir.Val.{hbits}
 use Rattle.std.proofs.lemmas.Int.{ints, by_lt_z}
 
 -- ---- the ring
@@ -125,3 +127,9 @@ cancel_< d a b h = by_lt_z a b (λ k. k) (λ k. clash_ℤ h (scale_≤ d b a k))
 
 pub scale_< : (d : ℕ) (a b : ℤ) → 0 < d → a <ℤ b → (pos d *ℤ a) <ℤ (pos d *ℤ b)
 scale_< d a b p h = by_lt_z (pos d *ℤ a) (pos d *ℤ b) (λ k. k) (λ k. clash_ℤ h (cancel_≤ d b a p k))
+
+-- ---- numbers in bits
+
+-- a number that fits is the same once it is read again from its bits
+pub read_back : (w : Width) {z : ℤ} → mag z < 2 ^ hbits w → to_z w (of_z w z) ≡ z
+read_back w fits = to_z-of_z (record { sfits = fits })

@@ -1,31 +1,19 @@
 -- What a chain over the places of a table sums up to, and that the sum fits.
-use Rattle.std.proofs.Common.{◌≡◌, ℕ, zero, suc, ◌+◌, ◌*◌, ◌^◌, ◌<◌, ◌≤◌, List, [], ◌∷◌, map, length, take, fold, Option, ℤ, pos, ◌+ℤ◌, sym, refl, ap, ◌∙◌, subst, suc-mul, mul-le-mul, add-one, arith, SFits, length-take}
+use Rattle.std.proofs.Common.{◌≡◌, ℕ, zero, suc, ◌+◌, ◌*◌, ◌^◌, ◌<◌, ◌≤◌, List, [], ◌∷◌, map, fold, Option, ℤ, pos, ◌+ℤ◌, sym, refl, ap, ◌∙◌, suc-mul, mul-le-mul, add-one, arith, SFits}
 use mir.Syntax.{w128}
 use Rattle.std.specs.Bool.{⊤}
-use Rattle.std.specs.Iterator.{Drains, Yields}
-use Rattle.std.specs.Iterator.Runs.{EachRunFrom, YieldsRun}
+use Rattle.std.specs.Iterator.{Drains}
+use Rattle.std.specs.Iterator.Runs.{EachRunFrom}
 use Rattle.std.specs.List.{range_with_len}
 use Rattle.std.proofs.lemmas.Int.{ints}
 use Rattle.std.proofs.lemmas.Iterator.{YieldsList}
 use Rattle.std.proofs.lemmas.Iterator.Adapters.{total_from_yields_List}
-use Rattle.std.proofs.lemmas.Iterator.Consumers.{YieldsList-so_far}
-use Rattle.std.proofs.lemmas.List.{map-id}
 use Rattle.std.proofs.lemmas.List.FromFn.{length-map-range_with_len, map-range_with_len_more, take-map-range_with_len}
 use Rattle.std.proofs.lemmas.List.Sums.{fold-append}
+use Rattle.composition.proofs.Amounts.{between_fits}
+use Rattle.composition.proofs.Chains.{each_front}
 use Rattle.composition.specs.Amounts.{Between}
 use Rattle.shapley.proofs.Places.{place_sum}
-use Rattle.shapley.proofs.Terms.{between_fits}
-
--- what holds of each front of the list that a chain gives holds of what each run of it takes
-pub each_front : {S A : Type 0} {steps : S → Option A → S → Type 0} {s : S} {all : List A} → YieldsList steps (λ x. x) s all
-    → (P : List A → Type 0) → ((k : ℕ) → k ≤ length all → P (take k all)) → EachRunFrom steps s (λ p. P p.items)
-unfolding YieldsRun
-each_front {S} {A} {steps} {s} {all} road P holds = λ p _ from. of_run p.items p.gave.0.0 (subst (λ u. Yields steps u p.items p.gave.0.0) from p.gave.0.1)
-  where
-    of_run : (xs : List A) (t : S) → Yields steps s xs t → P xs
-    of_run xs t y =
-        let front : xs ≡ take (length xs) all = sym (map-id xs) ∙ YieldsList-so_far road xs t y in
-        subst P (sym front) (holds (length xs) (omega (arith, ap length front, length-take (length xs) all)))
 
 -- what the chain adds up is the sum over the places
 folded : (n : ℕ) (g : ℕ → ℤ) → fold ◌+ℤ◌ (pos 0) (map g (range_with_len 0 n)) ≡ place_sum n g

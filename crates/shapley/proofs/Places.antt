@@ -1,9 +1,8 @@
 -- Sums over the places of a table are sums over the groups that stand there.
-use Rattle.std.proofs.Common.{◌≡◌, ℕ, zero, suc, ◌+◌, ◌*◌, ◌/◌, ◌%◌, ◌^◌, ◌<◌, ◌≤◌, List, [], ◌∷◌, ℤ, pos, ◌+ℤ◌, sym, refl, ap, ◌∙◌, add-zero, add-suc, suc-mul, mul_comm, mul-le-mul, zero-mul, add-one, arith, pow-add}
-use native.Mathlib.Nat.{two-pow-succ}
+use Rattle.std.proofs.Common.{◌≡◌, ℕ, zero, suc, ◌+◌, ◌*◌, ◌/◌, ◌%◌, ◌<◌, List, [], ◌∷◌, ℤ, pos, ◌+ℤ◌, sym, refl, ap, ◌∙◌, add-zero, add-suc, suc-mul, mul_comm, zero-mul, add-one, arith}
 use lib.IntN.{+ℤ_assoc, +ℤ_idl, +ℤ_idr}
 use Rattle.std.proofs.lemmas.Nat.{div-mul-add, mod-mul-add}
-use Rattle.composition.specs.Counts.{total, size, at_place}
+use Rattle.composition.specs.Counts.{size, at_place}
 use Rattle.shapley.specs.Shares.{range_sum, box_sum}
 
 -- g 0 + .. + g (n - 1)
@@ -46,12 +45,3 @@ places_are_groups (m ∷ ms) g =
     ∙ same_sum (size ms) (λ q. place_sum (m + 1) (λ n. g (n ∷ at_place ms q))) (λ q. range_sum m (λ n. g (n ∷ at_place ms q)))
     (λ q below. ap (λ (k : ℕ). place_sum k (λ n. g (n ∷ at_place ms q))) (add-one m) ∙ sym (range_is_places m (λ n. g (n ∷ at_place ms q))))
     ∙ places_are_groups ms (λ ns. range_sum m (λ n. g (n ∷ ns)))
-
-count_le_power : (n : ℕ) → n + 1 ≤ 2 ^ n
-count_le_power zero = omega arith
-count_le_power (suc n) = let h : n + 1 ≤ 2 ^ n = count_le_power n in omega (arith, two-pow-succ n)
-
--- there are no more groups than subsets of the homes
-pub size_le_power : (ms : List ℕ) → size ms ≤ 2 ^ total ms
-size_le_power [] = omega arith
-size_le_power (m ∷ ms) = rw (pow-add 2 m (total ms)) (mul-le-mul (count_le_power m) (size_le_power ms))

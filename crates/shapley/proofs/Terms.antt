@@ -1,8 +1,7 @@
 -- What a group of the others brings to a home's share: that it can be read off the tables, and that it is small.
-use Rattle.std.proofs.Common.{◌≡◌, ℕ, ◌*◌, ◌^◌, ◌<◌, ◌≤◌, List, ℤ, pos, negsuc, ◌*ℤ◌, neg_ℤ, ◌≤ℤ◌, ap, ◌∙◌, le_trans, mul-le-mul, arith, pow_mono, w64, SFits}
-use mir.Syntax.{Width}
-use mir.Val.{hbits}
+use Rattle.std.proofs.Common.{◌≡◌, ℕ, ◌*◌, ◌^◌, ◌<◌, ◌≤◌, List, ℤ, pos, ◌*ℤ◌, neg_ℤ, ◌≤ℤ◌, ap, ◌∙◌, le_trans, mul-le-mul, arith, pow_mono, w64, SFits}
 use Rattle.std.proofs.lemmas.Int.{ints}
+use Rattle.composition.proofs.Amounts.{between_fits}
 use Rattle.composition.proofs.Changes.{total_lowered}
 use Rattle.composition.proofs.Places.{inside_lowered, inside_total, place_below, raised_inside}
 use Rattle.composition.specs.Amounts.{Between}
@@ -12,7 +11,7 @@ use Rattle.cost_rules.specs.Limits.{limit, Within}
 use Rattle.shapley.proofs.Combinatorics.{ways_le_power}
 use Rattle.shapley.proofs.CommonMultiples.{lcm_to_small}
 use Rattle.rounding.proofs.Integers.{scale_≤, *ℤ_negℤ}
-use Rattle.shapley.proofs.Places.{place_sum, places_are_groups, size_le_power}
+use Rattle.shapley.proofs.Places.{place_sum, places_are_groups}
 use Rattle.shapley.proofs.Shapley.{share_bounded_by_counts}
 use Rattle.shapley.proofs.Weights.{weight_le_lcm}
 use Rattle.shapley.specs.Combinations.{ways}
@@ -40,15 +39,6 @@ times_small f z h (low, high) =
     let t : (pos f *ℤ z) ≤ℤ (pos f *ℤ pos (2 ^ 30)) = scale_≤ f z (pos (2 ^ 30)) high in
     let e : pos f *ℤ neg_ℤ (pos (2 ^ 30)) ≡ neg_ℤ (pos f *ℤ pos (2 ^ 30)) = *ℤ_negℤ (pos f) (pos (2 ^ 30)) in
     (omega (arith, ints), omega (arith, ints))
-
--- what is between a bound and its negation fits a width that the bound fits
-pub between_fits : (w : Width) (b : ℕ) (z : ℤ) → b < 2 ^ hbits w → Between b z → SFits w z
-between_fits w b (pos n) h k = record { sfits = omega (arith, ints) }
-between_fits w b (negsuc n) h k = record { sfits = omega (arith, ints) }
-
--- a table of costs is short enough for an index to be added to
-pub size_small : (ms : List ℕ) → total ms ≤ 24 → size ms ≤ 2 ^ 24
-size_small ms h = le_trans (size_le_power ms) (pow_mono h)
 
 -- ---- a home, and a group of the others
 

@@ -61,6 +61,7 @@ fn a_fee_outside_the_limits_is_refused(rt: HostRuntime) -> Result<(), Fail> {
     Ok(())
 }
 
+// How many homes a group has, or the number by which people know the refusal.
 fn homes_in_group(counts: [u8; 4]) -> Result<u8, u8> {
     let group = by_number(Composition::new(counts))?;
     Ok(group.homes())

@@ -6,13 +6,14 @@ use period::Period;
 use std::process::Abort;
 use std::test::Fail;
 
-// What homes of type 1 cost by the grid over these words.
+// What homes of type 1 cost by the grid over these words, or the number by which people know the fault.
 fn grid_cost(words: &[u32], homes: u8) -> Result<Result<i64, u8>, Fail> {
     let mut period = Period::built_in();
     fill_period(&mut period, words)?;
     Ok(cost_by(&GridRule::on(period), [homes, 0, 0, 0]))
 }
 
+// The price of a rule, or the number by which people know the refusal.
 fn set_price<'a>(rule: &mut PeakRule<'a>, period: Period<'a>, price: i64) -> Result<(), u8> {
     by_number(rule.fill(period, price))
 }
@@ -63,7 +64,7 @@ fn the_largest_walk_does_not_overflow(rt: HostRuntime) -> Result<(), Fail> {
 
 fn largest_at(tariff: u16) -> [u32; 35_146] {
     let mut words = leap_year(20_000);
-    words[7] = 0x40000000 + tariff as u32;
+    words[7] = 0x40000000 + u32::from(tariff);
     words
 }
 

@@ -1,6 +1,7 @@
 // Which words make a period, what it tells, and at which place other words are refused.
 use crate::periods::*;
-use period::{Period, Reading};
+use battery::Rating;
+use period::{Period, Reading, Tariffs};
 use std::process::Abort;
 use std::test::Fail;
 
@@ -13,15 +14,32 @@ static THREE_TYPES: [u32; 14] = [
     0x500001F4, 0x60000001, 0x60000002, 0x60000003, 0x70000004, 0xF000000D,
 ];
 
-// The tariffs of import and export, the demands of the types and the generation.
-type HalfHour = (u32, u32, [u32; 4], u32);
+// A half-hour: the tariffs of import and export, the demands of the types and the generation.
+fn reading(import: u32, export: u32, demands: [u32; 4], generation: u32) -> Reading {
+    Reading {
+        tariffs: Tariffs { import, export },
+        demands,
+        generation,
+    }
+}
 
 // The half-hours of the worked period: the tariffs of the first hold over.
-const FIRST: HalfHour = (3000, 500, [200, 0, 0, 0], 1000);
+const FIRST: Reading = Reading {
+    tariffs: Tariffs {
+        import: 3000,
+        export: 500,
+    },
+    demands: [200, 0, 0, 0],
+    generation: 1000,
+};
 
-const SECOND: HalfHour = (3000, 500, [900, 0, 0, 0], 0);
+const SECOND: Reading = Reading {
+    demands: [900, 0, 0, 0],
+    generation: 0,
+    ..FIRST
+};
 
-// Whether words make a period.
+// Whether words make a period, or the number by which people know the refusal, and its place.
 fn answer(words: &[u32]) -> Result<(), (u8, usize)> {
     let mut period = Period::built_in();
     fill_period(&mut period, words)
@@ -35,48 +53,43 @@ fn check_with(rt: &impl Abort, place: usize, word: u32, expected: Result<(), (u8
     assert_eq!(rt; answer(&words), expected);
 }
 
-fn told(reading: Reading) -> HalfHour {
-    let tariffs = reading.tariffs;
-    let demands = reading.demands;
-    (tariffs.import, tariffs.export, demands, reading.generation)
-}
-
 // These are all half-hours of a period.
-fn check_read(rt: &impl Abort, period: &Period, expected: &[HalfHour]) {
+fn check_read(rt: &impl Abort, period: &Period, expected: &[Reading]) {
     let mut readings = period.readings();
     for half_hour in expected {
-        assert_eq!(rt; readings.next().map(told), Some(*half_hour));
+        assert_eq!(rt; readings.next(), Some(*half_hour));
     }
-    assert_eq!(rt; readings.next().map(told), None);
+    assert_eq!(rt; readings.next(), None);
 }
 
 // Words make a period with these half-hours.
-fn check_taken(rt: &impl Abort, words: &[u32], expected: &[HalfHour]) -> Result<(), Fail> {
+fn check_taken(rt: &impl Abort, words: &[u32], expected: &[Reading]) -> Result<(), Fail> {
     let mut period = Period::built_in();
     fill_period(&mut period, words)?;
     check_read(rt, &period, expected);
     Ok(())
 }
 
-fn types_and_rating(period: &Period) -> (u8, [u32; 5]) {
-    let rating = period.battery().rating;
-    let values = [
-        rating.lowest,
-        rating.highest,
-        rating.most,
-        rating.charging,
-        rating.discharging,
-    ];
-    (period.types(), values)
+// What the battery can do for one home.
+fn rating(lowest: u32, highest: u32, most: u32, charging: u32, discharging: u32) -> Rating {
+    Rating {
+        lowest,
+        highest,
+        most,
+        charging,
+        discharging,
+    }
 }
 
 #[test]
 fn the_worked_period_is_read(rt: HostRuntime) -> Result<(), Fail> {
     let mut period = Period::built_in();
-    assert_eq!(rt; types_and_rating(&period), (1, [0, 0, 0, 1, 1]));
-    check_read(&rt, &period, &[(0, 0, [0; 4], 0)]);
+    assert_eq!(rt; period.types(), 1);
+    assert_eq!(rt; period.battery().rating, rating(0, 0, 0, 1, 1));
+    check_read(&rt, &period, &[reading(0, 0, [0; 4], 0)]);
     fill_period(&mut period, &WORKED)?;
-    assert_eq!(rt; types_and_rating(&period), (1, [0, 1000, 500, 90, 90]));
+    assert_eq!(rt; period.types(), 1);
+    assert_eq!(rt; period.battery().rating, rating(0, 1000, 500, 90, 90));
     check_read(&rt, &period, &[FIRST, SECOND]);
     Ok(())
 }
@@ -183,7 +196,7 @@ fn a_later_half_hour_may_have_tariffs(rt: HostRuntime) -> Result<(), Fail> {
     check_taken(&rt, &words, &[FIRST, SECOND])?;
     words[11] = 0x40000BB9;
     words[12] = 0x500001F5;
-    check_taken(&rt, &words, &[FIRST, (3001, 501, [900, 0, 0, 0], 0)])?;
+    check_taken(&rt, &words, &[FIRST, reading(3001, 501, [900, 0, 0, 0], 0)])?;
     words[11] = 0x500001F4;
     words[12] = 0x40000BB8;
     assert_eq!(rt; answer(&words), Err((24, 12)));
@@ -198,9 +211,9 @@ fn a_later_half_hour_may_have_one_tariff(rt: HostRuntime) -> Result<(), Fail> {
         0x40000BB8, 0x500001F4, 0x600000C8, 0x700003E8, 0x40000BB9, 0x60000384, 0x70000000,
         0xF000000E,
     ];
-    check_taken(&rt, &words, &[FIRST, (3001, 500, [900, 0, 0, 0], 0)])?;
+    check_taken(&rt, &words, &[FIRST, reading(3001, 500, [900, 0, 0, 0], 0)])?;
     words[11] = 0x500001F5;
-    check_taken(&rt, &words, &[FIRST, (3000, 501, [900, 0, 0, 0], 0)])?;
+    check_taken(&rt, &words, &[FIRST, reading(3000, 501, [900, 0, 0, 0], 0)])?;
     words[14] = 0xF000000D;
     assert_eq!(rt; answer(&words), Err((25, 14)));
     Ok(())
@@ -208,7 +221,7 @@ fn a_later_half_hour_may_have_one_tariff(rt: HostRuntime) -> Result<(), Fail> {
 
 #[test]
 fn demands_are_read_type_by_type(rt: HostRuntime) -> Result<(), Fail> {
-    check_taken(&rt, &THREE_TYPES, &[(3000, 500, [1, 2, 3, 0], 4)])
+    check_taken(&rt, &THREE_TYPES, &[reading(3000, 500, [1, 2, 3, 0], 4)])
 }
 
 #[test]

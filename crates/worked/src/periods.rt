@@ -21,7 +21,7 @@ pub(crate) static WORKED: [u32; 14] = [
     0xF000000D, // closed at place 13
 ];
 
-// Fills a period, or tells the refusal's number and place.
+// Fills a period, or tells the number by which people know the refusal, and its place.
 pub(crate) fn fill_period<'a>(
     period: &mut Period<'a>,
     words: &'a [u32],

@@ -1,5 +1,5 @@
 // Every home's share once more, from the definition: a plain sum over all subsets of the other homes. Sums wrap, and indices are cut down, since a
-// test is proved not to overflow either: no number here comes near that. Homes and costs go side by side through the functions, as in the definition.
+// test is proved not to overflow either: no number here comes near that.
 use crate::told::*;
 use account::{Account, Draft};
 use std::process::Abort;
@@ -22,76 +22,87 @@ fn costs_by_lot(seed: u32) -> [i32; 256] {
     costs
 }
 
-// How many homes a subset has, and what it costs. Four groups differ only in the homes of type 1, sixteen only in those
-// of types 1 and 2, and so on: each home moves its group on by a step of 1, 4, 16 or 64 places.
-fn cost_of(homes: &[u8], subset: usize, costs: &[i32; 256]) -> (usize, i128) {
-    let mut size = 0usize;
-    let mut place = 0usize;
-    for (number, bit) in homes.iter().zip(BITS) {
-        if subset & bit != 0 {
-            let step = match number {
-                1 => 1,
-                2 => 4,
-                3 => 16,
-                _ => 64,
-            };
-            size = size.wrapping_add(1);
-            place = place.wrapping_add(step);
+// Six homes or fewer, each by the number of its type, as a home joins an account; and what groups of them cost.
+#[derive(Clone, Copy)]
+struct Street<'a> {
+    homes: &'a [u8],
+    costs: &'a [i32; 256],
+}
+
+impl Street<'_> {
+    // How many homes a subset has, and what it costs. Four groups differ only in the homes of type 1, sixteen only in those
+    // of types 1 and 2, and so on: each home moves its group on by a step of 1, 4, 16 or 64 places.
+    fn cost_of(&self, subset: usize) -> (usize, i128) {
+        let mut size = 0usize;
+        let mut place = 0usize;
+        for (number, bit) in self.homes.iter().zip(BITS) {
+            if subset & bit != 0 {
+                let step = match number {
+                    1 => 1,
+                    2 => 4,
+                    3 => 16,
+                    _ => 64,
+                };
+                size = size.wrapping_add(1);
+                place = place.wrapping_add(step);
+            }
         }
+        (size, i128::from(self.costs[place % 256]))
     }
-    (size, i128::from(costs[place % 256]))
-}
 
-// What a home adds to each subset of the others, for each order of all homes in which it arrives right behind that subset.
-fn added_in_all_orders(homes: &[u8], bit: usize, costs: &[i32; 256]) -> i128 {
-    let mut sum = 0i128;
-    for subset in 0..BITS[homes.len() % 7] {
-        if subset & bit == 0 {
-            let (before, without) = cost_of(homes, subset, costs);
-            let (_, with) = cost_of(homes, subset | bit, costs);
-            let behind = homes.len().wrapping_sub(1).wrapping_sub(before);
-            let orders = ORDERS[before % 7].wrapping_mul(ORDERS[behind % 7]);
-            sum = sum.wrapping_add(orders.wrapping_mul(with.wrapping_sub(without)));
+    // What a home adds to a subset of the others, for each order of all homes in which it arrives right behind that subset.
+    fn added_behind(&self, subset: usize, bit: usize) -> i128 {
+        let (before, without) = self.cost_of(subset);
+        let (_, with) = self.cost_of(subset | bit);
+        let behind = self.homes.len().wrapping_sub(1).wrapping_sub(before);
+        let orders = ORDERS[before % 7].wrapping_mul(ORDERS[behind % 7]);
+        orders.wrapping_mul(with.wrapping_sub(without))
+    }
+
+    fn added_in_all_orders(&self, bit: usize) -> i128 {
+        (0..BITS[self.homes.len() % 7])
+            .filter(|subset| subset & bit == 0)
+            .map(|subset| self.added_behind(subset, bit))
+            .fold(0, i128::wrapping_add)
+    }
+
+    // The bills of an account with these homes.
+    fn draft(&self) -> Result<Draft, Fail> {
+        let Street { homes, costs } = *self;
+        let mut account = Account::open_after(0);
+        for &number in homes {
+            join(&mut account, number)?;
         }
+        draft_by_list(account, [3, 3, 3, 3], costs, &mut [0; 64])
     }
-    sum
-}
 
-// The bills of an account with these homes.
-fn draft_for(homes: &[u8], costs: &[i32; 256]) -> Result<Draft, Fail> {
-    let mut account = Account::open_after(0);
-    for &number in homes {
-        join(&mut account, number)?;
+    // Shares are over the least common multiple, and the sums over the number of all orders.
+    fn check_share(
+        &self,
+        rt: &impl Abort,
+        number: u8,
+        bit: usize,
+        draft: &Draft,
+    ) -> Result<(), Fail> {
+        let (share, _) = line(draft, number)?.ok_or_else(|| Fail::new("a home has no line"))?;
+        let orders = ORDERS[self.homes.len() % 7];
+        assert_eq!(rt;
+            orders.wrapping_mul(i128::from(share)),
+            i128::from(draft.lcm()).wrapping_mul(self.added_in_all_orders(bit))
+        );
+        Ok(())
     }
-    draft_by_list(account, [3, 3, 3, 3], costs, &mut [0; 64])
-}
-
-// Shares are over the least common multiple, and the sums over the number of all orders.
-fn check_share(
-    rt: &impl Abort,
-    homes: &[u8],
-    number: u8,
-    bit: usize,
-    draft: &Draft,
-    costs: &[i32; 256],
-) -> Result<(), Fail> {
-    let Some((share, _)) = line(draft, number)? else {
-        return Err(Fail::new("a home has no line"));
-    };
-    let added = added_in_all_orders(homes, bit, costs);
-    let orders = ORDERS[homes.len() % 7];
-    assert_eq!(rt;
-        orders.wrapping_mul(i128::from(share)),
-        i128::from(draft.lcm()).wrapping_mul(added)
-    );
-    Ok(())
 }
 
 fn check_shares(rt: &impl Abort, homes: &[u8], seed: u32) -> Result<(), Fail> {
     let costs = costs_by_lot(seed);
-    let draft = draft_for(homes, &costs)?;
+    let street = Street {
+        homes,
+        costs: &costs,
+    };
+    let draft = street.draft()?;
     for (number, bit) in homes.iter().zip(BITS) {
-        check_share(rt, homes, *number, bit, &draft, &costs)?;
+        street.check_share(rt, *number, bit, &draft)?;
     }
     Ok(())
 }

@@ -1,5 +1,5 @@
 // The calls under test, with answers that a test can compare and show: refusals by their numbers, since it is the numbers that are known outside.
-// Each helper takes what the call takes, an account with a rule and a table, or a box with its costs.
+// Each helper takes what the call takes, an account with a rule and a table, or a box with its costs: a struct of them would be made for one call.
 use account::{Account, Draft, DraftRefusal};
 use composition::{Composition, DemandType};
 use cost_rules::{CostRule, HeadRule, ListedRefusal, ListedRule};
@@ -78,12 +78,7 @@ pub(crate) fn line(draft: &Draft, number: u8) -> Result<Line, u8> {
 
 pub(crate) fn bills_of(draft: &Draft) -> Result<Bills, u8> {
     let whole = (draft.lcm(), draft.cost(), draft.rebate(), draft.purse());
-    let lines = [
-        line(draft, 1)?,
-        line(draft, 2)?,
-        line(draft, 3)?,
-        line(draft, 4)?,
-    ];
+    let lines = [1, 2, 3, 4].try_map(|number| line(draft, number))?;
     Ok((whole, lines))
 }
 

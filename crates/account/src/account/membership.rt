@@ -1,4 +1,4 @@
-// Homes that join and leave.
+// Homes that join and leave. Their types come by number, as people know them: a narrower type would ask more of who calls.
 ghost use Rattle.account.specs.Calls.{Joined, Departed};
 
 use super::Account;

@@ -6,7 +6,7 @@ use super::Draft;
 use composition::{Composition, DemandType, NoSuchType};
 
 impl Draft {
-    // Share and bill of the type with this number; none if it has no homes.
+    // Share and bill of the type with this number; none if it has no homes. By number, since a narrower type would ask more of who calls.
     pub fn line(&self, number: u8) -> Result<Option<(i64, i64)>, NoSuchType>
         ensures { LineRead self.now number result }
     {

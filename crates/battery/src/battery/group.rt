@@ -21,6 +21,7 @@ impl Group {
     }
 
     // What of an amount that is lacking comes out of the battery.
+    // Not one function with `put_in`: told which way the energy goes, it would have to pick a limit that each of the two simply names.
     pub(super) fn taken_out(&self, lacking: u32) -> Moved
         ensures { result.energy ≡ min lacking (most_out self.now.battery.rating self.now.homes self.now.charge) }
     {
@@ -32,7 +33,7 @@ impl Group {
         ensures { result.energy ≡ self.now.homes * self.now.battery.rating.most }
     {
         Moved {
-            energy: self.homes as u32 * self.battery.rating.most,
+            energy: u32::from(self.homes) * self.battery.rating.most,
         }
     }
 
@@ -40,7 +41,7 @@ impl Group {
     fn fits(&self) -> u32
         ensures { result ≡ 100 * (self.now.homes * self.now.battery.rating.highest - self.now.charge) / self.now.battery.rating.charging }
     {
-        let highest = self.homes as u32 * self.battery.rating.highest;
+        let highest = u32::from(self.homes) * self.battery.rating.highest;
         100 * highest.saturating_sub(self.charge) / self.battery.rating.charging
     }
 
@@ -48,8 +49,8 @@ impl Group {
     fn yields(&self) -> u32
         ensures { result ≡ (self.now.charge - self.now.homes * self.now.battery.rating.lowest) * self.now.battery.rating.discharging / 100 }
     {
-        let lowest = self.homes as u32 * self.battery.rating.lowest;
+        let lowest = u32::from(self.homes) * self.battery.rating.lowest;
         let held = self.charge.saturating_sub(lowest);
-        (held as u64 * self.battery.rating.discharging as u64 / 100) as u32
+        (u64::from(held) * u64::from(self.battery.rating.discharging) / 100) as u32
     }
 }

@@ -10,7 +10,8 @@ impl Composition {
         ensures value { result ≡ weighted self.now.counts amounts.now }
         ensures size { Between (4 * (255 * 2 ^ 31)) result }
     {
-        // four products and no iterator: that a sum of signed numbers fits is shown product by product either way, and this is no longer
+        // four products, and no chain that adds them up: tried, and not proved. That an entry of an array of signed numbers is within its type is known where
+        // the code reads it, and a chain reads it out of sight
         let [a, b, c, d] = self.counts;
         let first = product(a, amounts[0]);
         let second = product(b, amounts[1]);
@@ -25,5 +26,5 @@ fn product(count: u8, amount: i32) -> i64
     ensures value { result ≡ pos count *ℤ amount }
     ensures size { Between (255 * 2 ^ 31) result }
 {
-    count as i64 * amount as i64
+    i64::from(count) * i64::from(amount)
 }

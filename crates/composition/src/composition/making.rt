@@ -11,7 +11,7 @@ impl Composition {
     pub fn new(counts: [u8; 4]) -> Result<Composition, TooManyHomes>
         ensures { Made counts result }
     {
-        if homes_in(&counts) > MOST as u16 {
+        if homes_in(&counts) > u16::from(MOST) {
             return Err(TooManyHomes);
         }
         Ok(Composition { counts })
@@ -42,5 +42,5 @@ impl Composition {
 fn homes_in(counts: &[u8; 4]) -> u16
     ensures { result ≡ total counts.now }
 {
-    counts.iter().map(|count| *count as u16).sum()
+    counts.iter().map(|count| u16::from(*count)).sum()
 }

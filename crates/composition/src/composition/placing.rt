@@ -1,4 +1,5 @@
-// Where the groups inside a group stand in a table.
+// Where the groups inside a group stand in a table. `place`, `at` and `step` take the four counts apart, a line for each: a chain over them is no plainer, since
+// it has to carry along what is left of a place, or how far a home of the type moves it.
 ghost use Rattle.std.specs.Prelude.{◌≡◌, ℕ, ◌+◌, ◌/◌, ◌%◌, ◌<◌, true, List, length};
 ghost use Rattle.composition.specs.Counts.{Inside, fits, size, place, at_place, step, raised};
 ghost use Rattle.composition.specs.Types.{position};
@@ -11,12 +12,13 @@ impl Composition {
     pub fn size(&self) -> usize
         ensures { result ≡ size self.now.counts }
     {
-        // no iterator: the bound on a product of numbers from a list would have to be shown by hand
-        let [a, b, c, d] = self.counts;
-        (a as usize + 1) * ((b as usize + 1) * ((c as usize + 1) * (d as usize + 1)))
+        self.counts
+            .iter()
+            .map(|count| usize::from(*count) + 1)
+            .product()
     }
 
-    // Whether this group lies inside another.
+    // Whether this group lies inside another. That it does is a clause here and in what follows: a type for it would carry both groups.
     pub fn fits(&self, inside: &Composition) -> bool
         ensures value { result ≡ fits self.now.counts inside.now.counts }
         ensures only { result ≡ true → Inside self.now.counts inside.now.counts }
@@ -36,9 +38,9 @@ impl Composition {
     {
         let [a, b, c, _] = self.counts;
         let [w, x, y, z] = of.counts;
-        let rest = y as usize + (c as usize + 1) * z as usize;
-        let rest = x as usize + (b as usize + 1) * rest;
-        w as usize + (a as usize + 1) * rest
+        let rest = usize::from(y) + (usize::from(c) + 1) * usize::from(z);
+        let rest = usize::from(x) + (usize::from(b) + 1) * rest;
+        usize::from(w) + (usize::from(a) + 1) * rest
     }
 
     // The group at a place inside this one; each place below the size has its own.
@@ -63,7 +65,7 @@ impl Composition {
         ensures further { (n : List ℕ) → length n ≡ 4 → place self.now.counts (raised (position of) n) ≡ place self.now.counts n + result }
     {
         let [a, b, c, _] = self.counts;
-        let (a, b, c) = (a as usize + 1, b as usize + 1, c as usize + 1);
+        let (a, b, c) = (usize::from(a) + 1, usize::from(b) + 1, usize::from(c) + 1);
         match of {
             DemandType::One => 1,
             DemandType::Two => a,
@@ -78,6 +80,6 @@ fn digit(left: usize, most: u8) -> (u8, usize)
     ensures count { result.0 ≡ left % (most + 1) }
     ensures rest { result.1 ≡ left / (most + 1) }
 {
-    let radix = most as usize + 1;
+    let radix = usize::from(most) + 1;
     ((left % radix) as u8, left / radix)
 }

@@ -31,7 +31,7 @@ impl<T: Tally> MeteredRule<'_, T> {
 }
 
 // One half-hour of a group that begins it with a charge, and the charge that it ends with. That a reading is small is asked for, here and of its parts
-// below, and stands in no type: readings are plain, so that anyone can write one.
+// below. Three types would say it no plainer, of a reading, of its four demands and of one amount: each would be made anew from plain numbers.
 #[tactic(auto, using(crate::proofs::Demanding::demand_small))]
 fn half_hour(
     battery: &Battery,

@@ -55,7 +55,7 @@ fn demands(words: &mut &[u32], types: u8) -> [u32; 4]
     ensures left { words.new.now ≡ drop types words.old.now }
 {
     let mut demands = [0; 4];
-    for demand in &mut demands[..types as usize] {
+    for demand in &mut demands[..usize::from(types)] {
         *demand = first(words);
     }
     demands

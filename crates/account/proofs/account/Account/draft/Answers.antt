@@ -1,21 +1,11 @@
-use Rattle.std.proofs.Common.{arith}
 use Rattle.account.specs.Bills.{cost_by}
 use Rattle.account.proofs.FilledTables.{filled_within, filled_costs, billed_alike}
 use Rattle.account.proofs.account.Account.draft.Goals as goal
 
-pub bill-requires : goal.bill-requires
-bill-requires g c =
+pub bill-requires-clause-limits : goal.bill-requires-clause-limits
+bill-requires-clause-limits g c =
     let a = c.args.self in
-    let prepared = c.in-Ok.ensures in
-    let filled = prepared.1 in
-    record {
-      some = prepared.0.some_homes;
-      numbers = prepared.0.numbers_left;
-      long = omega (arith, prepared.0.long_enough, filled.same_length);
-      limits =
-          filled_within (g.R.CostRule.meaning c.args.rule.now) a.homes.counts c.args.table.now _ (g.R.CostRule.limited c.args.rule.now) a.homes.four
-          a.homes.few filled;
-    }
+    filled_within (g.R.CostRule.meaning c.args.rule.now) a.homes.counts c.args.table.now _ (g.R.CostRule.limited c.args.rule.now) a.homes.four a.homes.few c.in-Ok.ensures.1
 
 pub returns-in-Ok : goal.returns-in-Ok
 returns-in-Ok g c =

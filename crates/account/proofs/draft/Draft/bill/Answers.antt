@@ -1,5 +1,6 @@
 use Rattle.std.proofs.Common.{◌≡◌, ℕ, get_or, pos, Some, None, ap, refl, sym, ◌∙◌, subst, arith, to_z-of_z, w32, w64, SFits, rules}
 use Rattle.composition.specs.Counts.{total}
+use Rattle.rounding.proofs.Integers.{read_back}
 use Rattle.composition.specs.Types.{position}
 use Rattle.composition.specs.declared.composition.Composition.{Composition}
 use Rattle.composition.specs.declared.demand_type.DemandType.{DemandType}
@@ -33,9 +34,9 @@ returns c =
     let fits : SFits w64 rebate = search rules in
     let read = to_z-of_z fits in
     let line_at : (k : DemandType) → get_or c.map-2.result (position k) None ≡ lined (get_or charges (position k) None) rebate = search rules in
-    let cost = to_z-of_z {w = w32} (record { sfits = c.cost_of_all-cost.type_inv }) ∙ c.cost_of_all-cost.ensures in
+    let cost = read_back w32 c.cost_of_all-cost.type_inv ∙ c.cost_of_all-cost.ensures in
     billed_at c.args.account table _ counts charges pence same refl c.lcm_to-lcm.ensures.value
-    (to_z-of_z {w = w64} (record { sfits = c.from.type_inv }) ∙ c.from.ensures ∙ cost)
+    (read_back w64 c.from.type_inv ∙ c.from.ensures ∙ cost)
     (subst (λ (p : ℕ). ChargedByType counts (costs_by counts table) p charges) c.penny_over-penny.ensures charged)
     c.map.ensures.items.long pence_at
     (settled_read counts pence _ _ _ _ _ _ _ c.settle-settled.ensures.settled cost c.purse-purse.ensures (sym read))

@@ -1,6 +1,7 @@
 -- The calls' answers make a settlement, once each number is read as the one that was passed.
-use Rattle.std.proofs.Common.{◌^◌, ◌*◌, ◌∙◌, arith, to_z-of_z, w64}
+use Rattle.std.proofs.Common.{◌^◌, ◌*◌, ◌∙◌, arith, w64}
 use Rattle.std.proofs.lemmas.Int.{ints}
+use Rattle.rounding.proofs.Integers.{read_back}
 use Rattle.billing.proofs.Settlements.{settled_by, down_between}
 use Rattle.billing.proofs.charges.Charges.settle.Goals as goal
 
@@ -12,14 +13,14 @@ returns c =
       settled =
           settled_by _ _ _ _ pot.result _ _ rebate.result _ c.rem_euclid-purse.result _ c.from-penny_each.result
           c.args.self.now.some (c.from-penny_each.ensures ∙ c.homes.ensures) pot.ensures.value
-          (to_z-of_z {w = w64} (record { sfits = pot.type_inv }))
-          (to_z-of_z {w = w64} (record { sfits = rebate.type_inv }))
-          (to_z-of_z {w = w64} (record { sfits = c.rem_euclid-purse.type_inv }))
+          (read_back w64 pot.type_inv)
+          (read_back w64 rebate.type_inv)
+          (read_back w64 c.rem_euclid-purse.type_inv)
           rebate.ensures c.rem_euclid-purse.ensures.value (omega (arith, ints));
       small =
           down_between (2 ^ 48) (100 * c.from-penny_each.result) pot.result _ rebate.result _
           (omega (arith, c.args.self.now.some, c.homes.ensures)) pot.ensures.small
-          (to_z-of_z {w = w64} (record { sfits = pot.type_inv }))
-          (to_z-of_z {w = w64} (record { sfits = rebate.type_inv }))
+          (read_back w64 pot.type_inv)
+          (read_back w64 rebate.type_inv)
           rebate.ensures;
     }

@@ -1,10 +1,11 @@
 use Rattle.std.proofs.Common.{◌≡◌, ℕ, ◌^◌, ◌+◌, ◌<◌, pos, ◌-ℤ◌, ◌∙◌, ap, ap₂, arith, lit<, w64, to_z, of_z, get_or}
 use Rattle.std.proofs.lemmas.Int.{ints, to_z-of_z}
-use Rattle.composition.proofs.Places.{place_below}
+use Rattle.composition.proofs.Amounts.{between_fits}
+use Rattle.composition.proofs.Places.{place_below, size_small}
 use Rattle.composition.specs.Counts.{place, raised, size}
 use Rattle.composition.specs.Types.{position}
 use Rattle.shapley.specs.CostTables.{added_in}
-use Rattle.shapley.proofs.Terms.{with_home, without_home, added_small, between_fits, size_small}
+use Rattle.shapley.proofs.Terms.{with_home, without_home, added_small}
 use Rattle.shapley.proofs.cost_table.group.Group.added.Goals as goal
 
 -- a step further stands the group with the home

@@ -2,7 +2,8 @@ use Rattle.std.proofs.Common.{◌≡◌, ◌^◌, pos, ◌*ℤ◌, ◌∙◌, ap
 use mir.Syntax.{w128}
 use Rattle.std.proofs.lemmas.Int.{ints, to_z-of_z}
 use Rattle.shapley.specs.CostTables.{term_in}
-use Rattle.shapley.proofs.Terms.{between_fits, term_is, term_small}
+use Rattle.composition.proofs.Amounts.{between_fits}
+use Rattle.shapley.proofs.Terms.{term_is, term_small}
 use Rattle.shapley.proofs.cost_table.group.Group.term.Goals as goal
 
 -- the two factors as they are read again from their bits

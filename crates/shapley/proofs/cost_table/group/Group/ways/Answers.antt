@@ -2,8 +2,8 @@ use Rattle.std.proofs.Common.{◌*◌, ◌^◌, ◌<◌, ◌≤◌, fold, ◌∙
 use Rattle.std.proofs.lemmas.Iterator.{YieldsList-from_map}
 use Rattle.std.proofs.lemmas.Iterator.Adapters.{serves_from_places, total_from_yields_List}
 use Rattle.std.proofs.lemmas.Iterator.Consumers.{YieldsList-at}
+use Rattle.composition.proofs.Chains.{each_front}
 use Rattle.composition.specs.Counts.{total}
-use Rattle.shapley.proofs.Chains.{each_front}
 use Rattle.shapley.proofs.Picks.{paired, pick, picks_allowed, products, products_small}
 use Rattle.shapley.proofs.Terms.{others_few}
 use Rattle.shapley.proofs.cost_table.group.Group.ways.Goals as goal

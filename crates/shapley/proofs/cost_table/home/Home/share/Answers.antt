@@ -2,12 +2,13 @@ use Rattle.std.proofs.Common.{◌≡◌, ℕ, ◌^◌, ◌∙◌, ap, arith, rul
 use mir.Syntax.{w128}
 use Rattle.std.proofs.lemmas.Int.{to_z-of_z}
 use Rattle.std.proofs.lemmas.Iterator.{YieldsList-from_map, YieldsList-from_range}
-use Rattle.composition.proofs.Places.{at_place_inside}
+use Rattle.composition.proofs.Places.{at_place_inside, size_small}
 use Rattle.composition.specs.Counts.{at_place}
 use Rattle.shapley.specs.CostTables.{share_in, term_in}
+use Rattle.rounding.proofs.Integers.{read_back}
 use Rattle.shapley.proofs.Chains.{chain_fits, chain_sum}
 use Rattle.shapley.proofs.Places.{place_sum}
-use Rattle.shapley.proofs.Terms.{all_summed, share_fits, size_small, term_small}
+use Rattle.shapley.proofs.Terms.{all_summed, share_fits, term_small}
 use Rattle.shapley.proofs.cost_table.home.Home.share.Goals as goal
 
 pub sum-sum-requires-clause-fits : goal.sum-sum-requires-clause-fits
@@ -24,7 +25,7 @@ summed : (c : goal.After-sum-sum) → to_z w128 (of_z w128 c.sum-sum.result) ≡
 summed c =
     let home = c.args.self.now in
     let term = λ (p : ℕ). term_in home.table home.of (at_place home.others.counts p) in
-    to_z-of_z w128 _ (record { sfits = c.sum-sum.type_inv })
+    read_back w128 c.sum-sum.type_inv
     ∙ chain_sum c.size.result term
     (YieldsList-from_map _ _ (YieldsList-from_range 0 _ _ c.map.ensures.source (omega arith)) c.map.ensures.closure (λ x r q k. search rules))
     c.sum-sum.result c.sum-sum.ensures.ran
