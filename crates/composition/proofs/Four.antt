@@ -1,9 +1,6 @@
 -- Lists of four counts.
-use Rattle.std.proofs.Common.{◌≡◌, ℕ, zero, suc, ◌+◌, ◌*◌, ◌/◌, ◌%◌, ◌<◌, List, [], ◌∷◌, length, get_or, refl, add-zero, mul-zero, mul-one, arith}
-use Rattle.composition.specs.Counts.{total, place, at_place, step, Inside, nobody}
-use Rattle.composition.specs.Types.{position}
-use Rattle.composition.specs.declared.demand_type.DemandType.{DemandType}
-use Rattle.composition.specs.declared.demand_type.DemandType.TheVariants.{One, Two, Three, Four}
+use Rattle.std.proofs.Common.{◌≡◌, ℕ, zero, suc, ◌+◌, ◌*◌, ◌/◌, ◌%◌, ◌<◌, List, [], ◌∷◌, length, get_or, refl, add-zero, mul-zero, arith}
+use Rattle.composition.specs.Counts.{total, place, at_place, Inside, nobody}
 
 -- a list of four is its four entries
 pub split4 : {A : Type 0} (d : A) (xs : List A) → length xs ≡ 4 → xs ≡ get_or xs 0 d ∷ get_or xs 1 d ∷ get_or xs 2 d ∷ get_or xs 3 d ∷ []
@@ -37,22 +34,6 @@ pub at_place_four :
     → z.0 ≡ y.1 % (get_or ms 3 0 + 1)
     → w.0 ∷ x.0 ∷ y.0 ∷ z.0 ∷ [] ≡ at_place ms p
 at_place_four ms p w x y z h e e' f f' g g' i = rw (i, g', g, f', f, e', e, split4 0 ms h)
-
--- a step written out for each type
-abbrev pub step_of : DemandType → ℕ → ℕ → ℕ → ℕ
-step_of One a b c = 1
-step_of Two a b c = a
-step_of Three a b c = a * b
-step_of Four a b c = a * (b * c)
-
-pub step_four :
-    (k : DemandType) (ms : List ℕ)
-    → length ms ≡ 4
-    → step (position k) ms ≡ step_of k (get_or ms 0 0 + 1) (get_or ms 1 0 + 1) (get_or ms 2 0 + 1)
-step_four One ms h = rw (split4 0 ms h)
-step_four Two ms h = rw (split4 0 ms h) (simp mul-one)
-step_four Three ms h = rw (split4 0 ms h) (simp mul-one)
-step_four Four ms h = rw (split4 0 ms h) (simp mul-one)
 
 -- nobody lies inside every group, at the first place
 pub nobody_inside : (ms : List ℕ) → length ms ≡ 4 → Inside nobody ms

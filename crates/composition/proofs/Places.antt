@@ -1,5 +1,5 @@
 -- Places: every group inside another has one of its own, and every place below the size is some group's.
-use Rattle.std.proofs.Common.{◌≡◌, ℕ, zero, suc, ◌+◌, ◌*◌, ◌/◌, ◌%◌, ◌^◌, ◌<◌, ◌≤◌, Bool, true, false, leb, List, [], ◌∷◌, length, slice_index, sym, refl, ap, mul_comm, mul-le-mul, mul-le-mul_left, mul-pos, mul-add, pow-add, pow_mono, le_trans, arith}
+use Rattle.std.proofs.Common.{◌≡◌, ℕ, zero, suc, ◌+◌, ◌*◌, ◌/◌, ◌%◌, ◌^◌, ◌<◌, ◌≤◌, Bool, true, false, leb, List, [], ◌∷◌, length, slice_index, take, sym, refl, ap, mul_comm, mul-le-mul, mul-le-mul_left, mul-pos, mul-add, pow-add, pow_mono, le_trans, arith}
 use native.Mathlib.Nat.{two-pow-succ}
 use Rattle.std.proofs.lemmas.Nat.{mod_below, div_below, div-add-mod', div-mul-add, mod-mul-add}
 use Rattle.std.proofs.lemmas.Bool.{and_parts, and_from, leb-true, le-leb}
@@ -99,6 +99,17 @@ place_raised i (m ∷ ms) [] h e = absurd (omega arith)
 place_raised zero (m ∷ ms) (n ∷ ns) h e = omega arith
 place_raised (suc i) (m ∷ ms) (n ∷ ns) h e =
     rw (place_raised i ms ns (omega arith) (omega arith)) (omega (arith, mul-add (m + 1) (place ms ns) (step i ms)))
+
+-- that step is the number of groups inside the counts before the type's own
+pub step_is_size : (i : ℕ) (ms : List ℕ) → i < length ms → step i ms ≡ size (take i ms)
+step_is_size i [] h = absurd (omega arith)
+step_is_size zero (m ∷ ms) h = refl
+step_is_size (suc i) (m ∷ ms) h = ap (λ (n : ℕ). (m + 1) * n) (step_is_size i ms (omega arith))
+
+pub fewer_before : (i : ℕ) (ms : List ℕ) → total (take i ms) ≤ total ms
+fewer_before zero ms = omega arith
+fewer_before (suc i) [] = omega arith
+fewer_before (suc i) (m ∷ ms) = let rest : total (take i ms) ≤ total ms = fewer_before i ms in omega arith
 
 -- the test tells what it is for a group to lie inside another
 pub fits_inside : (ns ms : List ℕ) → fits ns ms ≡ true → Inside ns ms

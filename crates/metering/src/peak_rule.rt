@@ -31,7 +31,7 @@ impl<'a> PeakRule<'a> {
         ensures filled { PeakFilled period.entry price self.old result self.new }
         ensures promise { PeakPromise self.new.period.words.now self.new.tally.price.value (⟦<PeakRule<'a> as CostRule>⟧.meaning self.new) }
     {
-        let price = Price::new(price)?;
+        let price = Price::try_from(price)?;
         *self = PeakRule {
             period,
             tally: PeakTally { price },

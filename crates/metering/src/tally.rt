@@ -6,7 +6,8 @@ ghost use Rattle.metering.specs.declared.half_hour.HalfHour.{HalfHour as Half};
 
 use crate::half_hour::HalfHour;
 
-// A tally is what a rule fixes beforehand; what it keeps of a walk is a value apart. The rule holds the tally itself: with a value of an associated type in it, it could not be copied.
+// A tally is what a rule fixes beforehand; what it keeps of a walk is a value apart. The rule holds the tally itself: with a value of an associated type in it,
+// it could not be copied.
 pub(crate) trait Tally: Copy {
     // What is kept of the half-hours that were taken so far.
     type SoFar: Copy;

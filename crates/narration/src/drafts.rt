@@ -78,7 +78,7 @@ fn draft<R: CostRule>(
     Ok(draft)
 }
 
-// Printed here, and not by `Display`: the draft is another crate's type, and the words are the story's.
+// This and its lines are printed here, and not by `Display`: the draft is another crate's type, and the words are the story's.
 fn show_draft(rt: &impl Print, draft: &Draft) -> io::Result<()> {
     let homes = draft.homes().homes();
     let cost = draft.cost();
@@ -89,6 +89,7 @@ fn show_draft(rt: &impl Print, draft: &Draft) -> io::Result<()> {
         "Bills are drafted for {homes} homes, which cost {cost} together. Shares are fractions over {lcm}."
     )?;
     println!(rt; "  Each home gets {rebate}p back, and the purse would then hold {purse}.")?;
+    // by number, as `line` takes a type
     for number in [1, 2, 3] {
         show_line(rt, draft, number)?;
     }

@@ -6,7 +6,7 @@ use account::Account;
 use refusal::Refusal;
 use std::io;
 
-// A new account that four homes would join, the last of them of a type that there is not.
+// A new account that four homes would join, each by the number of its type, as `join` takes it: the last is of a type that there is not.
 pub(crate) fn open_and_join(rt: &impl Print) -> io::Result<Account>
     ensures { IfOk result (Been 0) }
 {

@@ -37,7 +37,8 @@ pub(crate) const MOST_CHARGE: u32 = 100_000;
 // All of it, in percent.
 const WHOLE: u32 = 100;
 
-// Each is written out: `..` does not go with a ghost field, and a constant's value calls no function of ours.
+// A table, each entry written out: `..` does not go with a ghost field, a constant's value calls no function of ours, and a function of the kind, called where
+// the slot is wanted, would take its limits out of the table.
 pub(crate) const LENGTH: Slot = Slot {
     part: Part::Length,
     label: Label::Kind(Kind::HalfHours),

@@ -13,7 +13,7 @@ fn grid_cost(words: &[u32], homes: u8) -> Result<Result<i64, u8>, Fail> {
     Ok(cost_by(&GridRule::on(period), [homes, 0, 0, 0]))
 }
 
-// The price of a rule, or the number by which people know the refusal.
+// Sets the price of a rule, or tells the number by which people know the refusal.
 fn set_price<'a>(rule: &mut PeakRule<'a>, period: Period<'a>, price: i64) -> Result<(), u8> {
     by_number(rule.fill(period, price))
 }

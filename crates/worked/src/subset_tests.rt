@@ -22,7 +22,7 @@ fn costs_by_lot(seed: u32) -> [i32; 256] {
     costs
 }
 
-// Six homes or fewer, each by the number of its type, as a home joins an account; and what groups of them cost.
+// Six homes or fewer, each by the number of its type, as `join` and `line` take it; and what groups of them cost.
 #[derive(Clone, Copy)]
 struct Street<'a> {
     homes: &'a [u8],

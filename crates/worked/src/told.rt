@@ -10,7 +10,7 @@ use std::test::Fail;
 // An account's homes, its purse and its last bill number.
 pub(crate) type Standing = ([u8; 4], u32, u16);
 
-// The number of a refused draft and, where the rule has a fault, the place, the fault's number and its rung.
+// The number of a refused draft and, where the rule has a fault, the place, the number by which people know the fault, and its rung.
 pub(crate) type Ground = (u8, Option<(usize, u8, u8)>);
 
 // Share and bill in pence of a home of a type, if it has homes.

@@ -1,4 +1,5 @@
-// Filling a caller's table with the cost of every composition inside an account.
+// Filling a caller's table with the cost of every composition inside an account. A rule and a table go side by side, as `draft` takes them: a struct of the two
+// would be made for one call, and taken apart in it.
 ghost use Rattle.std.specs.Prelude.{◌≤◌, length};
 ghost use Rattle.composition.specs.Counts.{size};
 ghost use Rattle.account.specs.Filling.{FillEnds};

@@ -10,14 +10,11 @@ impl Composition {
         ensures value { result ≡ weighted self.now.counts amounts.now }
         ensures size { Between (4 * (255 * 2 ^ 31)) result }
     {
-        // four products, and no chain that adds them up: tried, and not proved. That an entry of an array of signed numbers is within its type is known where
-        // the code reads it, and a chain reads it out of sight
-        let [a, b, c, d] = self.counts;
-        let first = product(a, amounts[0]);
-        let second = product(b, amounts[1]);
-        let third = product(c, amounts[2]);
-        let fourth = product(d, amounts[3]);
-        first + (second + (third + fourth))
+        let mut sum = 0;
+        for (count, amount) in self.counts.iter().zip(amounts) {
+            sum += product(*count, *amount);
+        }
+        sum
     }
 }
 

@@ -1,7 +1,7 @@
-// Where the groups inside a group stand in a table. `place`, `at` and `step` take the four counts apart, a line for each: a chain over them is no plainer, since
-// it has to carry along what is left of a place, or how far a home of the type moves it.
-ghost use Rattle.std.specs.Prelude.{◌≡◌, ℕ, ◌+◌, ◌/◌, ◌%◌, ◌<◌, true, List, length};
-ghost use Rattle.composition.specs.Counts.{Inside, fits, size, place, at_place, step, raised};
+// Where the groups inside a group stand in a table. `place` and `at` take the four counts apart, a line for each: a chain is no plainer, since for `place` it has
+// to run backwards, and for `at` it has to carry along what is left of the place.
+ghost use Rattle.std.specs.Prelude.{◌≡◌, ℕ, ◌+◌, ◌/◌, ◌%◌, ◌<◌, ◌≤◌, true, List, length};
+ghost use Rattle.composition.specs.Counts.{Inside, fits, most, size, total, place, at_place, step, raised};
 ghost use Rattle.composition.specs.Types.{position};
 
 use super::Composition;
@@ -12,13 +12,11 @@ impl Composition {
     pub fn size(&self) -> usize
         ensures { result ≡ size self.now.counts }
     {
-        self.counts
-            .iter()
-            .map(|count| usize::from(*count) + 1)
-            .product()
+        choices(&self.counts)
     }
 
-    // Whether this group lies inside another. That it does is a clause here and in what follows: a type for it would carry both groups.
+    // Whether this group lies inside another. That it does is a clause here and in what follows: `place` and `at` answer for any group and any place, and a type
+    // would ask more.
     pub fn fits(&self, inside: &Composition) -> bool
         ensures value { result ≡ fits self.now.counts inside.now.counts }
         ensures only { result ≡ true → Inside self.now.counts inside.now.counts }
@@ -64,15 +62,16 @@ impl Composition {
         ensures value { result ≡ step (position of) self.now.counts }
         ensures further { (n : List ℕ) → length n ≡ 4 → place self.now.counts (raised (position of) n) ≡ place self.now.counts n + result }
     {
-        let [a, b, c, _] = self.counts;
-        let (a, b, c) = (usize::from(a) + 1, usize::from(b) + 1, usize::from(c) + 1);
-        match of {
-            DemandType::One => 1,
-            DemandType::Two => a,
-            DemandType::Three => a * b,
-            DemandType::Four => a * (b * c),
-        }
+        choices(&self.counts[..of.position()])
     }
+}
+
+// How many choices there are, where each count may be anything from 0 up to its own.
+fn choices(counts: &[u8]) -> usize
+    requires { total counts.now ≤ most }
+    ensures { result ≡ size counts.now }
+{
+    counts.iter().map(|count| usize::from(*count) + 1).product()
 }
 
 // The count that what is left of a place gives to a type with at most `most` homes, and the rest for the types after it.

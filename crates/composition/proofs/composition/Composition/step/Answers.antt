@@ -1,32 +1,19 @@
-use Rattle.std.proofs.Common.{◌≡◌, ℕ, ◌+◌, List, length, sym, ◌∙◌, arith, rules}
-use Rattle.composition.specs.Counts.{place, step, raised}
+use Rattle.std.proofs.Common.{ℕ, take, le_trans, sym, ap, ◌∙◌, arith}
+use Rattle.composition.specs.Counts.{size}
 use Rattle.composition.specs.Types.{position}
-use Rattle.composition.specs.declared.composition.Composition.{Composition}
-use Rattle.composition.specs.declared.demand_type.DemandType.{DemandType}
-use Rattle.composition.specs.declared.demand_type.DemandType.TheVariants.{Three, Four}
 use Rattle.composition.proofs.Changes.{type_counted}
-use Rattle.composition.proofs.Four.{step_four}
-use Rattle.composition.proofs.Places.{place_raised}
+use Rattle.composition.proofs.Places.{fewer_before, place_raised, step_is_size}
 use Rattle.composition.proofs.composition.Composition.step.Goals as goal
 
--- a number that is the step takes a group to its place with one home more
-further :
-    (k : DemandType) (homes : Composition) (r : ℕ)
-    → r ≡ step (position k) homes.counts
-    → (n : List ℕ)
-    → length n ≡ 4
-    → place homes.counts (raised (position k) n) ≡ place homes.counts n + r
-further k homes r is n four =
-    omega (arith, place_raised (position k) homes.counts n (type_counted k homes) (four ∙ sym homes.four), is)
+pub choices-requires : goal.choices-requires
+choices-requires c = le_trans (fewer_before _ c.args.self.now.counts) c.args.self.now.few
 
-pub returns-in-Three-clause-value : goal.returns-in-Three-clause-value
-returns-in-Three-clause-value c = rw c.in-Three.is (search (rules, step_four Three c.args.self.now.counts c.args.self.now.four))
+pub returns-clause-value : goal.returns-clause-value
+returns-clause-value c =
+    let homes = c.args.self.now in
+    c.choices.ensures ∙ ap (λ (i : ℕ). size (take i homes.counts)) c.position.ensures ∙ sym (step_is_size (position c.args.of) homes.counts (type_counted c.args.of homes))
 
-pub returns-in-Three-clause-further : goal.returns-in-Three-clause-further
-returns-in-Three-clause-further c = rw c.in-Three.is (further Three c.args.self.now _ (rw c.in-Three.is at (returns-in-Three-clause-value c)))
-
-pub returns-in-Four-clause-value : goal.returns-in-Four-clause-value
-returns-in-Four-clause-value c = rw c.in-Four.is (search (rules, step_four Four c.args.self.now.counts c.args.self.now.four))
-
-pub returns-in-Four-clause-further : goal.returns-in-Four-clause-further
-returns-in-Four-clause-further c = rw c.in-Four.is (further Four c.args.self.now _ (rw c.in-Four.is at (returns-in-Four-clause-value c)))
+pub returns-clause-further : goal.returns-clause-further
+returns-clause-further c = λ n four.
+    let homes = c.args.self.now in
+    omega (arith, place_raised (position c.args.of) homes.counts n (type_counted c.args.of homes) (four ∙ sym homes.four), returns-clause-value c)

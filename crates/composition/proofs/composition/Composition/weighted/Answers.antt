@@ -1,23 +1,31 @@
--- Each sum fits, since each product is far below what an i64 holds.
-use Rattle.std.proofs.Common.{◌∙◌, rules}
-use Rattle.composition.proofs.Amounts.{SumOfFour, sum_of_four, weighted_of_four}
+use Rattle.std.proofs.Common.{rules, ◌≡◌, pos, ◌+ℤ◌, ◌*ℤ◌, length, ℤ, inl, inr, ⊎_elim, ap, ◌∙◌, w32, w64, SFits, to_z, of_z, arith, to_z-of_z}
+use Rattle.std.proofs.lemmas.Int.{ints}
+use Rattle.composition.proofs.Amounts.{one_added, all_added}
 use Rattle.composition.proofs.composition.Composition.weighted.Goals as goal
 
-sums : (c : goal.After-product-fourth) → SumOfFour c.product-first.result c.product-second.result c.product-third.result c.product-fourth.result
-sums c = sum_of_four _ _ _ _ c.product-first.ensures.size c.product-second.ensures.size c.product-third.ensures.size c.product-fourth.ensures.size
+pub loop-count-init : goal.loop-count-init
+loop-count-init c =
+    let all : c.into_iter-count-iterator.result.a.rest.now ≡ c.args.self.now.counts = cc in
+    let four : length c.into_iter-count-iterator.result.a.rest.now ≡ 4 = ap length all ∙ c.args.self.now.four in
+    record { makes = search rules; left = omega arith; small = (omega (arith, ints), omega (arith, ints)) }
 
-pub overflow_add-result : goal.overflow_add-result
-overflow_add-result c = (sums c).last_two
+pub overflow_add-sum : goal.overflow_add-sum
+overflow_add-sum c = omega (arith, ints, c.loop-count.invariant.small, c.product-sum.ensures.size)
 
-pub overflow_add-result-2 : goal.overflow_add-result-2
-overflow_add-result-2 c = (sums c).last_three
-
-pub overflow_add-result-3 : goal.overflow_add-result-3
-overflow_add-result-3 c = (sums c).all
+pub loop-count-preserved : goal.loop-count-preserved
+loop-count-preserved c =
+    let fits : SFits w32 c.in-Some.amount.now = search rules in
+    let is = c.product-sum.ensures.value ∙ ap (λ (x : ℤ). pos c.in-Some.count.now *ℤ x) (to_z-of_z fits) in
+    let read : to_z w64 (of_z w64 (to_z w64 c.loop-count.sum-bits +ℤ to_z w64 (of_z w64 c.product-sum.result))) ≡ to_z w64 c.loop-count.sum-bits +ℤ c.product-sum.result =
+    omega (arith, ints, c.loop-count.invariant.small, c.product-sum.ensures.size) in
+    rw read
+    (one_added c.in-Some.count.now c.in-Some.amount.now c.product-sum.result _ _ _ _ _ _ c.in-Some.ensures.steps.0 c.in-Some.ensures.steps.1 is c.product-sum.ensures.size c.loop-count.invariant)
 
 pub returns-clause-value : goal.returns-clause-value
 returns-clause-value c =
-    (sums c).value ∙ weighted_of_four c.args.self.now.counts c.args.amounts.now c.product-first.result c.product-second.result c.product-third.result c.product-fourth.result c.args.self.now.four c.told-amounts (search rules) (search rules) (search rules) (search rules)
+    all_added c.loop-count.count-iterator.a.rest.now c.loop-count.count-iterator.b.rest.now _ _
+    (⊎_elim (λ first. inl first.1.0) (λ second. inr second.1.0) c.in-None.ensures.steps)
+    c.loop-count.invariant
 
 pub returns-clause-size : goal.returns-clause-size
-returns-clause-size c = (sums c).size
+returns-clause-size c = omega (arith, ints, c.loop-count.invariant.small, c.loop-count.invariant.left)
