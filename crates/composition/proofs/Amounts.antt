@@ -18,6 +18,10 @@ pub between_fits : (w : Width) (b : ℕ) (z : ℤ) → b < 2 ^ hbits w → Betwe
 between_fits w b (pos n) h k = record { sfits = omega (arith, ints) }
 between_fits w b (negsuc n) h k = record { sfits = omega (arith, ints) }
 
+-- two amounts together stay between the sum of their bounds and its negation
+sum_between : (a b : ℤ) (p q s : ℕ) → Between p a → Between q b → s ≡ p + q → Between s (a +ℤ b)
+sum_between a b p q s f g e = (omega (arith, ints, f.0, g.0, e), omega (arith, ints, f.1, g.1, e))
+
 -- a count of at most a times an amount between -b and b stays between -(a × b) and a × b
 pub product_bounds : (n : ℕ) (p : ℤ) (a b : ℕ) → n ≤ a → neg_ℤ (pos b) ≤ℤ p → p ≤ℤ pos b → Between (a * b) (pos n *ℤ p)
 product_bounds n p a b k low high =
@@ -58,11 +62,8 @@ one_added n x p whole sum ns rest xs more en ex is b so_far =
     record {
       makes = +ℤ_assoc sum p (weighted rest more) ∙ rw is before.makes;
       left = omega (arith, before.left);
-      small = further sum p ((4 - suc k) * 547608330240) 547608330240 ((4 - k) * 547608330240) before.small b (omega (arith, before.left));
+      small = sum_between sum p ((4 - suc k) * 547608330240) 547608330240 ((4 - k) * 547608330240) before.small b (omega (arith, before.left));
     }
-  where
-    further : (a b : ℤ) (p q s : ℕ) → Between p a → Between q b → s ≡ p + q → Between s (a +ℤ b)
-    further a b p q s f g e = (omega (arith, ints, f.0, g.0, e), omega (arith, ints, f.1, g.1, e))
 
 -- with none left, the sum is the whole
 pub all_added : (ns : List ℕ) (xs : List ℤ) (whole sum : ℤ) → (length ns ≡ 0) ⊎ (length xs ≡ 0) → AddedUp ns xs whole sum → sum ≡ whole
@@ -82,10 +83,7 @@ weighted_between m (n ∷ ns) (x ∷ xs) h =
     let here = h 0 (omega arith) in
     let first : Between (n * m) (pos n *ℤ x) = product_bounds n x n m (omega arith) here.0 here.1 in
     let rest : Between (total ns * m) (weighted ns xs) = weighted_between m ns xs (λ i k. h (suc i) (omega arith)) in
-    join (pos n *ℤ x) (weighted ns xs) (n * m) (total ns * m) ((n + total ns) * m) first rest (add-mul n (total ns) m)
-  where
-    join : (a b : ℤ) (p q s : ℕ) → Between p a → Between q b → s ≡ p + q → Between s (a +ℤ b)
-    join a b p q s f g e = (omega (arith, ints, f.0, g.0, e), omega (arith, ints, f.1, g.1, e))
+    sum_between (pos n *ℤ x) (weighted ns xs) (n * m) (total ns * m) ((n + total ns) * m) first rest (add-mul n (total ns) m)
 
 -- no homes have no amount
 pub weighted_nobody : (xs : List ℤ) → length xs ≡ 4 → weighted nobody xs ≡ pos 0

@@ -106,11 +106,6 @@ step_is_size i [] h = absurd (omega arith)
 step_is_size zero (m ∷ ms) h = refl
 step_is_size (suc i) (m ∷ ms) h = ap (λ (n : ℕ). (m + 1) * n) (step_is_size i ms (omega arith))
 
-pub fewer_before : (i : ℕ) (ms : List ℕ) → total (take i ms) ≤ total ms
-fewer_before zero ms = omega arith
-fewer_before (suc i) [] = omega arith
-fewer_before (suc i) (m ∷ ms) = let rest : total (take i ms) ≤ total ms = fewer_before i ms in omega arith
-
 -- the test tells what it is for a group to lie inside another
 pub fits_inside : (ns ms : List ℕ) → fits ns ms ≡ true → Inside ns ms
 fits_inside [] [] h = tt

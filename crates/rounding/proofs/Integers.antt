@@ -12,7 +12,7 @@ use Rattle.std.proofs.lemmas.Int.{ints, by_lt_z}
 pub swap_inner : (x y b c : ℤ) → (x +ℤ y) +ℤ (b +ℤ c) ≡ (x +ℤ b) +ℤ (y +ℤ c)
 swap_inner x y b c = omega (arith, ints)
 
-swap_inner_minus : (x y b c : ℤ) → (x +ℤ y) -ℤ (b +ℤ c) ≡ (x -ℤ b) +ℤ (y -ℤ c)
+pub swap_inner_minus : (x y b c : ℤ) → (x +ℤ y) -ℤ (b +ℤ c) ≡ (x -ℤ b) +ℤ (y -ℤ c)
 swap_inner_minus x y b c = omega (arith, ints)
 
 -- by steps of one in the left factor, up from 0 and down from 0

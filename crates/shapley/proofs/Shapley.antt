@@ -10,7 +10,7 @@ use Rattle.composition.specs.Types.{position}
 use Rattle.composition.specs.declared.demand_type.DemandType.{DemandType}
 use Rattle.composition.specs.declared.demand_type.DemandType.TheVariants.{One, Two, Three, Four}
 use Rattle.shapley.proofs.Combinatorics.{factorial_pos}
-use Rattle.rounding.proofs.Integers.{*ℤ_+ℤ, *ℤ_negℤ, *ℤ_assoc, *ℤ_left_comm, scale_≤, cancel_≡}
+use Rattle.rounding.proofs.Integers.{*ℤ_+ℤ, *ℤ_negℤ, *ℤ_assoc, *ℤ_left_comm, scale_≤, cancel_≡, swap_inner_minus}
 use Rattle.shapley.proofs.SubsetsToCounts.{length_is_total, position_inside, subsets_by_counts, orders_add_up}
 use Rattle.shapley.proofs.Sums.{box_sum_cong, box_sum_scale, box_sum_adds, box_sum_mono, subset_sum_cong, subset_sum_scale}
 use Rattle.shapley.proofs.Weights.{weight_factorials}
@@ -31,14 +31,11 @@ pub share_adds : (counts : List ℕ) (i : ℕ) (c d : List ℕ → ℤ) → shar
 share_adds counts i c d =
     box_sum_cong (lowered i counts)
     (λ n. factor n *ℤ marginal (λ m. c m +ℤ d m) i n) (λ n. factor n *ℤ marginal c i n +ℤ factor n *ℤ marginal d i n)
-    (λ n h. ap (λ (x : ℤ). factor n *ℤ x) (apart (c (raised i n)) (d (raised i n)) (c n) (d n)) ∙ *ℤ_+ℤ (factor n) (marginal c i n) (marginal d i n))
+    (λ n h. ap (λ (x : ℤ). factor n *ℤ x) (swap_inner_minus (c (raised i n)) (d (raised i n)) (c n) (d n)) ∙ *ℤ_+ℤ (factor n) (marginal c i n) (marginal d i n))
     ∙ box_sum_adds (lowered i counts) (λ n. factor n *ℤ marginal c i n) (λ n. factor n *ℤ marginal d i n)
   where
     factor : List ℕ → ℤ
     factor n = pos (weight (total counts) (total n) * ways (lowered i counts) n)
-
-    apart : (x y a b : ℤ) → (x +ℤ y) -ℤ (a +ℤ b) ≡ (x -ℤ a) +ℤ (y -ℤ b)
-    apart x y a b = omega (arith, ints)
 
 pub share_cong : (counts : List ℕ) (i : ℕ) (c d : List ℕ → ℤ) → 0 < get_or counts i 0 → ((n : List ℕ) → Inside n counts → c n ≡ d n) → share counts i c ≡ share counts i d
 share_cong counts i c d p e =

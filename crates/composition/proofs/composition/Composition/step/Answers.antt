@@ -1,12 +1,9 @@
-use Rattle.std.proofs.Common.{ℕ, take, le_trans, sym, ap, ◌∙◌, arith}
+use Rattle.std.proofs.Common.{ℕ, take, sym, ap, ◌∙◌, arith}
 use Rattle.composition.specs.Counts.{size}
 use Rattle.composition.specs.Types.{position}
 use Rattle.composition.proofs.Changes.{type_counted}
-use Rattle.composition.proofs.Places.{fewer_before, place_raised, step_is_size}
+use Rattle.composition.proofs.Places.{place_raised, step_is_size}
 use Rattle.composition.proofs.composition.Composition.step.Goals as goal
-
-pub choices-requires : goal.choices-requires
-choices-requires c = le_trans (fewer_before _ c.args.self.now.counts) c.args.self.now.few
 
 pub returns-clause-value : goal.returns-clause-value
 returns-clause-value c =

@@ -1,16 +1,7 @@
-use Rattle.std.proofs.Common.{rules, ◌≡◌, pos, ◌+ℤ◌, ◌*ℤ◌, length, ℤ, inl, inr, ⊎_elim, ap, ◌∙◌, w32, w64, SFits, to_z, of_z, arith, to_z-of_z}
+use Rattle.std.proofs.Common.{rules, ◌≡◌, pos, ◌+ℤ◌, ◌*ℤ◌, ℤ, inl, inr, ⊎_elim, ap, ◌∙◌, w32, w64, SFits, to_z, of_z, arith, to_z-of_z}
 use Rattle.std.proofs.lemmas.Int.{ints}
 use Rattle.composition.proofs.Amounts.{one_added, all_added}
 use Rattle.composition.proofs.composition.Composition.weighted.Goals as goal
-
-pub loop-count-init : goal.loop-count-init
-loop-count-init c =
-    let all : c.into_iter-count-iterator.result.a.rest.now ≡ c.args.self.now.counts = cc in
-    let four : length c.into_iter-count-iterator.result.a.rest.now ≡ 4 = ap length all ∙ c.args.self.now.four in
-    record { makes = search rules; left = omega arith; small = (omega (arith, ints), omega (arith, ints)) }
-
-pub overflow_add-sum : goal.overflow_add-sum
-overflow_add-sum c = omega (arith, ints, c.loop-count.invariant.small, c.product-sum.ensures.size)
 
 pub loop-count-preserved : goal.loop-count-preserved
 loop-count-preserved c =
@@ -26,6 +17,3 @@ returns-clause-value c =
     all_added c.loop-count.count-iterator.a.rest.now c.loop-count.count-iterator.b.rest.now _ _
     (⊎_elim (λ first. inl first.1.0) (λ second. inr second.1.0) c.in-None.ensures.steps)
     c.loop-count.invariant
-
-pub returns-clause-size : goal.returns-clause-size
-returns-clause-size c = omega (arith, ints, c.loop-count.invariant.small, c.loop-count.invariant.left)
