@@ -14,7 +14,7 @@ use refusal::Refusal;
 use std::io;
 
 // A draft, which is posted: the account goes on from there. Two calls, this and the next, since each promises what its end does; the rest is `draft_and`.
-pub fn draft_and_post<R: CostRule>(
+pub(crate) fn draft_and_post<R: CostRule>(
     rt: &impl Print,
     account: Account,
     rule: &R,

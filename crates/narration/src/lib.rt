@@ -3,9 +3,9 @@
 
 mod drafts;
 mod homes;
+mod meter;
 mod refused;
 mod story;
 
-pub use drafts::draft_and_post;
-pub use refused::unless_refused;
+pub use meter::by_the_meter;
 pub use story::by_lists_and_fees;

@@ -5,7 +5,7 @@ use anyhow::anyhow;
 use refusal::Refusal;
 
 // What a call answered. If it was refused, this tells what would have been done and under which number it was refused, and ends with an error.
-pub fn unless_refused<T: Drop, R: Refusal>(
+pub(crate) fn unless_refused<T: Drop, R: Refusal>(
     rt: &impl Print,
     answer: Result<T, R>,
     attempt: &str,

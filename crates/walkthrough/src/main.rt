@@ -1,9 +1,10 @@
-// A walk through one account, by listed costs and by a sum of rules.
+// A walk through one account: by listed costs, by a sum of rules, and by the meter.
 #![tactic(auto)]
 
-use narration::by_lists_and_fees;
+use narration::{by_lists_and_fees, by_the_meter};
 
 fn main(rt: HostRuntime) -> anyhow::Result<()> {
-    let _account = by_lists_and_fees(&rt)?;
+    let account = by_lists_and_fees(&rt)?;
+    let _account = by_the_meter(&rt, account)?;
     Ok(())
 }

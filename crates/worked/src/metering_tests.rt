@@ -6,11 +6,16 @@ use period::Period;
 use std::process::Abort;
 use std::test::Fail;
 
-// What homes of type 1 cost by the grid over these words, or the number by which people know the fault.
-fn grid_cost(words: &[u32], homes: u8) -> Result<Result<i64, u8>, Fail> {
+// What a group costs by the grid over these words, or the number by which people know the fault.
+fn grid_cost_of(words: &[u32], counts: [u8; 4]) -> Result<Result<i64, u8>, Fail> {
     let mut period = Period::built_in();
     fill_period(&mut period, words)?;
-    Ok(cost_by(&GridRule::on(period), [homes, 0, 0, 0]))
+    Ok(cost_by(&GridRule::on(period), counts))
+}
+
+// The same of homes of type 1.
+fn grid_cost(words: &[u32], homes: u8) -> Result<Result<i64, u8>, Fail> {
+    grid_cost_of(words, [homes, 0, 0, 0])
 }
 
 // Sets the price of a rule, or tells the number by which people know the refusal.
@@ -77,6 +82,16 @@ fn check_beyond_limits(rt: &impl Abort, words: &[u32]) -> Result<(), Fail> {
     assert_eq!(rt; cost_by(&peak, [12, 0, 0, 0]), Ok(480_000_000));
     assert_eq!(rt; cost_by(&peak, [24, 0, 0, 0]), Err(10));
     assert_eq!(rt; cost_by(&peak, [23, 1, 0, 0]), Err(12));
+    Ok(())
+}
+
+// 24 homes that use nothing export what is left of 24 x 20,000 watt-hours in each of 17,568 half-hours, 8,432,640,000. The battery takes 12,000 of them twice, which
+// it stores as 10,800, and then 2,666, stored as 2,399. That leaves room for 1, so that it takes 1 in each of the 17,565 half-hours that follow, of which it
+// stores nothing. So 44,231 are put in, and the rest brings in 8,432,595.769, which is rounded down below 0.
+#[test]
+fn the_longest_period_is_walked(rt: HostRuntime) -> Result<(), Fail> {
+    assert_eq!(rt; grid_cost_of(&longest(20_000, 0), [6; 4])?, Ok(8_432_640));
+    assert_eq!(rt; grid_cost_of(&longest(0, 20_000), [6; 4])?, Ok(-8_432_596));
     Ok(())
 }
 

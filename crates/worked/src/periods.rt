@@ -31,6 +31,23 @@ pub(crate) fn fill_period<'a>(
         .map_err(|refusal| (refusal.number(), refusal.place))
 }
 
+// The longest period: readings for four types and both tariffs, 1 for 1,000 watt-hours, in each of 17,568 half-hours, with the worked period's battery. Each home
+// has the same demand and generation.
+pub(crate) fn longest(demand: u16, generation: u16) -> [u32; 122_984] {
+    array::from_fn(|place| match place {
+        0 => 0x10000000 + 17_568,
+        1 => 0x20000004,
+        2..=6 => WORKED[place],
+        122_983 => 0xF0000000 + 122_983,
+        _ => match place % 7 {
+            0 => 0x40000001,
+            1 => 0x50000001,
+            6 => 0x70000000 + u32::from(generation),
+            _ => 0x60000000 + u32::from(demand),
+        },
+    })
+}
+
 // 366 days of a demand and no generation, with the worked period's battery and tariffs, closed at place 9 + 2 x 17,568.
 pub(crate) fn leap_year(demand: u16) -> [u32; 35_146] {
     array::from_fn(|place| match place {

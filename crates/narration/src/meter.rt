@@ -1,9 +1,12 @@
-// The walk through one account, and then its bills by the meter.
-#![tactic(auto)]
+// The account goes on by the meter: readings are checked, and bills drafted by what the grid charges and by the highest half-hour.
+ghost use Rattle.std.specs.Prelude.{IfOk};
+ghost use Rattle.narration.specs.Story.{GoesOn};
 
+use crate::drafts::draft_and_post;
+use crate::refused::unless_refused;
+use account::Account;
 use cost_rules::SumRule;
 use metering::{GridRule, PeakRule};
-use narration::{by_lists_and_fees, draft_and_post, unless_refused};
 use period::Period;
 use refusal::Refusal;
 use std::io;
@@ -28,18 +31,19 @@ static READINGS: [u32; 16] = [
     0xF000_000F,
 ];
 
-fn main(rt: HostRuntime) -> anyhow::Result<()> {
-    let account = by_lists_and_fees(&rt)?;
+// The account as it stands afterwards.
+pub fn by_the_meter(rt: &impl Print, account: Account) -> anyhow::Result<Account>
+    ensures { IfOk result (GoesOn account) }
+{
     let mut period = Period::built_in();
-    check(&rt, &mut period, &READINGS[..15])?;
-    check(&rt, &mut period, &READINGS)?;
-    show_readings(&rt, &period)?;
+    check(rt, &mut period, &READINGS[..15])?;
+    check(rt, &mut period, &READINGS)?;
+    show_readings(rt, &period)?;
     let rule = SumRule {
         left: GridRule::on(period),
-        right: peak_rule(&rt, period)?,
+        right: peak_rule(rt, period)?,
     };
-    let _account = draft_and_post(&rt, account, &rule, &mut [0; 6])?;
-    Ok(())
+    draft_and_post(rt, account, &rule, &mut [0; 6])
 }
 
 // Takes readings into the period, or says which word offends and keeps what it had.
