@@ -9,7 +9,7 @@ use Rattle.battery.specs.Energy.{InBounds}
 use Rattle.battery.specs.Ratings.{Rated}
 use Rattle.battery.specs.declared.rating.Rating.{Rating}
 use Rattle.composition.specs.Counts.{count}
-use Rattle.period.proofs.AcceptedPages.{accepted_writes, only_page}
+use Rattle.period.proofs.AcceptedPages.{begins, says}
 use Rattle.period.specs.InForce.{readings, no_tariffs}
 use Rattle.period.specs.Pages.{Page}
 use Rattle.period.specs.Reader.{accepts, page_of}
@@ -19,6 +19,7 @@ use Rattle.rounding.specs.Rounding.{RoundedDown}
 use Rattle.metering.proofs.Walking.{as_many}
 use Rattle.metering.specs.Demands.{Group}
 use Rattle.metering.specs.Grid.{grid_sum, grid_cost}
+use Rattle.metering.specs.Limits.{unit}
 use Rattle.metering.specs.Metered.{covers, metered}
 use Rattle.metering.specs.Peak.{peak, peak_cost, AtLeastAll, OneOfThem}
 use Rattle.metering.specs.Promise.{MeteredBy, Balances, OnWords, GridPromise, PeakPromise}
@@ -73,20 +74,18 @@ balances p rated =
       each_is_sound = λ g. all_sound p.rating g (start p.rating g) (readings p) rated (starts g);
     }
 
--- accepted words write their page down, and no other
-on_words : (cost : List HalfHour → ℤ) (ws : List ℕ) → accepts ws ≡ true → OnWords cost ws (metered cost (page_of ws))
+-- so it is of all that accepted words say, whatever the cost of half-hours
+pub on_words : (cost : List HalfHour → ℤ) (ws : List ℕ) → accepts ws ≡ true → OnWords cost ws (metered cost (page_of ws))
 on_words cost ws ok =
-    let w = accepted_writes ws ok in
     record {
-      a_page = (page_of ws, w);
-      metered_by_each = λ q writes. subst (λ r. MeteredBy cost r (metered cost (page_of ws))) (only_page ws q writes) (metered_by cost (page_of ws));
-      walks_balance = λ q writes. balances q writes.within.rated;
+      metered = says ws ok (λ p. MeteredBy cost p (metered cost (page_of ws))) (metered_by cost (page_of ws));
+      walks_balance = says ws ok Balances (balances (page_of ws) (begins ws ok).within.rated);
     }
 
 -- ---- the grid rule
 
 pub grid_promise : (ws : List ℕ) → accepts ws ≡ true → GridPromise ws (metered grid_cost (page_of ws))
-grid_promise ws ok = record { on_words = on_words grid_cost ws ok; divided_once = λ hs. floor_is (grid_sum hs) 1000 (omega arith) }
+grid_promise ws ok = record { on_words = on_words grid_cost ws ok; divided_once = λ hs. floor_is (grid_sum hs) unit (omega arith) }
 
 -- ---- the peak rule
 
@@ -106,7 +105,7 @@ one_of_them (h ∷ hs) = go (cases_lt (peak hs) (h.demand - h.generation)) (one_
     go (inl more) before = inl (omega (arith, ints))
     go (inr less) before = inr (let same : peak hs ≡ peak (h ∷ hs) = omega arith in subst (λ p. OneOfThem p hs) same before)
 
-rounded : (m : ℕ) → RoundedDown (pos m) 1000 (pos (m / 1000))
+rounded : (m : ℕ) → RoundedDown (pos m) unit (pos (m / unit))
 rounded m = record { within = omega (arith, ints); beyond = omega (arith, ints) }
 
 pub peak_promise : (ws : List ℕ) (price : ℕ) → accepts ws ≡ true → PeakPromise ws price (metered (peak_cost price) (page_of ws))

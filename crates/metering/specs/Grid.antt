@@ -1,9 +1,10 @@
 -- What the grid charges.
 use Rattle.std.specs.Prelude.{◌*◌, List, [], ◌∷◌, ℤ, pos, ◌+ℤ◌, ◌-ℤ◌}
 use Rattle.std.specs.Int.{int_div_euclid}
+use Rattle.metering.specs.Limits.{unit}
 use Rattle.metering.specs.declared.half_hour.HalfHour.{HalfHour}
 
--- one half-hour: its import at the import tariff, less its export at the export tariff, in thousandths of a hundredth
+-- one half-hour: its import at the import tariff, less its export at the export tariff, by the watt-hour: in thousandths of a hundredth of a penny
 abbrev pub amount : HalfHour → ℤ
 amount h = pos (h.import * h.tariffs.import) -ℤ pos (h.export * h.tariffs.export)
 
@@ -14,4 +15,4 @@ grid_sum (h ∷ hs) = amount h +ℤ grid_sum hs
 
 -- divided once, and rounded down
 abbrev pub grid_cost : List HalfHour → ℤ
-grid_cost hs = int_div_euclid (grid_sum hs) (pos 1000)
+grid_cost hs = int_div_euclid (grid_sum hs) (pos unit)

@@ -1,6 +1,10 @@
--- What the price of a peak may be, in hundredths of a penny for 1,000 watts. A watt-hour in a half-hour is 2 watts.
+-- What tariffs and prices are for, and what a price may be.
 use Rattle.std.specs.Prelude.{ℕ}
 
--- the highest price
+-- a tariff is for so many watt-hours, and the price of a peak for so many watts
+abbrev pub unit : ℕ
+unit = 1000
+
+-- the highest price, in hundredths of a penny
 abbrev pub most_price : ℕ
 most_price = 1000000

@@ -1,5 +1,6 @@
 -- What the highest half-hour costs.
 use Rattle.std.specs.Prelude.{◌≡◌, ℕ, ◌-◌, ◌*◌, ◌/◌, max, ◌⊎◌, List, [], ◌∷◌, ℤ, pos, ◌-ℤ◌, ◌≤ℤ◌}
+use Rattle.metering.specs.Limits.{unit}
 use Rattle.metering.specs.declared.half_hour.HalfHour.{HalfHour}
 
 -- the most that demand exceeds generation by, before the battery; 0 if it never does
@@ -7,9 +8,9 @@ abbrev pub peak : List HalfHour → ℕ
 peak [] = 0
 peak (h ∷ hs) = max (h.demand - h.generation) (peak hs)
 
--- twice the peak at a price, divided and rounded down
+-- twice the peak, which is in watts what it is in watt-hours of a half-hour, at a price: divided and rounded down
 abbrev pub peak_cost : ℕ → List HalfHour → ℤ
-peak_cost price hs = pos (2 * peak hs * price / 1000)
+peak_cost price hs = pos (2 * peak hs * price / unit)
 
 -- ---- what a peak is
 

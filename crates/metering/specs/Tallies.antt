@@ -5,6 +5,7 @@ use Rattle.composition.specs.Counts.{most}
 use Rattle.period.specs.Limits.{most_value}
 use Rattle.period.specs.declared.reading.Reading.{Reading}
 use Rattle.metering.specs.Grid.{grid_sum}
+use Rattle.metering.specs.Limits.{unit}
 use Rattle.metering.specs.Peak.{peak}
 use Rattle.metering.specs.declared.half_hour.HalfHour.{HalfHour}
 
@@ -42,11 +43,11 @@ Room sum n = sum + n * most_added < 2 ^ 62
 
 -- the grid's cost, where so much was paid and so much earned before
 abbrev pub grid_over : ℕ → ℕ → List HalfHour → ℤ
-grid_over paid earned hs = int_div_euclid ((pos paid -ℤ pos earned) +ℤ grid_sum hs) (pos 1000)
+grid_over paid earned hs = int_div_euclid ((pos paid -ℤ pos earned) +ℤ grid_sum hs) (pos unit)
 
 -- the peak's cost, where so much was lacking before
 abbrev pub peak_over : ℕ → ℕ → List HalfHour → ℤ
-peak_over price before hs = pos (2 * max before (peak hs) * price / 1000)
+peak_over price before hs = pos (2 * max before (peak hs) * price / unit)
 
 -- ---- where nothing moves
 

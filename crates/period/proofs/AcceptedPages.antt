@@ -1,5 +1,5 @@
 -- The page of an accepted period, and what its first words are.
-use Rattle.std.proofs.Common.{◌≡◌, ℕ, ◌+◌, ◌≤◌, true, List, [], ◌∷◌, length, get_or, drop, is_ok, Ok, Err, Result, refl, ap, ◌∙◌, arith}
+use Rattle.std.proofs.Common.{◌≡◌, ℕ, ◌+◌, ◌≤◌, true, List, [], ◌∷◌, length, get_or, drop, is_ok, Ok, Err, Result, refl, ap, subst, ◌∙◌, arith}
 use Rattle.period.proofs.Completeness.{read_written}
 use Rattle.period.proofs.Soundness.{written_read}
 use Rattle.period.proofs.PagesRead.{entries_read}
@@ -7,7 +7,7 @@ use Rattle.period.specs.Labels.{field_number, field_in}
 use Rattle.period.specs.declared.kinds.Field.{Field}
 use Rattle.period.specs.declared.kinds.Field.TheVariants.{Lowest, Highest, Most, Charging, Discharging}
 use Rattle.period.specs.InForce.{readings, no_tariffs}
-use Rattle.period.specs.Pages.{Page, WithinLimits, Writes, body, written}
+use Rattle.period.specs.Pages.{Page, WithinLimits, Writes, Says, body, written}
 use Rattle.period.specs.Reader.{read, accepts, page_or, page_of}
 use Rattle.period.specs.Unread.{unread}
 use Rattle.period.specs.Words.{value_of, field_value_of, word, closing_kind}
@@ -24,6 +24,10 @@ accepted_writes ws ok = go (read ws) refl ok
 -- and no other
 pub only_page : (ws : List ℕ) (p : Page) → Writes p ws → page_of ws ≡ p
 only_page ws p w = ap page_or (read_written p ws w)
+
+-- so what holds of that page is what they say
+pub says : (ws : List ℕ) → accepts ws ≡ true → (P : Page → Type 0) → P (page_of ws) → Says ws P
+says ws ok P holds = record { a_page = (page_of ws, accepted_writes ws ok); of_each = λ p w. subst P (only_page ws p w) holds }
 
 -- ---- the words before the first half-hour
 

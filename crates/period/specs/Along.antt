@@ -36,6 +36,7 @@ abbrev pub TakenInSlot : Slot → Option ℕ → Type 0
 TakenInSlot s (Some v) = (s.least ≤ v) × (v ≤ s.most)
 TakenInSlot s None = Unit {0}
 
+-- and so where a word must stand
 abbrev pub ReadInSlot : Slot → Result ℕ PeriodRefusal → Type 0
 ReadInSlot s (Ok v) = (s.least ≤ v) × (v ≤ s.most)
 ReadInSlot s (Err e) = Unit {0}

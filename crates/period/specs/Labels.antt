@@ -1,7 +1,7 @@
 -- Words by their label: the kind, or the field of a battery word. Only contracts inside the crate cite this.
 use Rattle.std.specs.Prelude.{◌≡◌, ℕ, ◌+◌, ◌<◌, ◌≤◌, ◌⊎◌, Some, None, Option}
 use Rattle.battery.specs.declared.rating.Rating.{Rating}
-use Rattle.period.specs.Words.{values, word, field_values, battery_word, half_hours_kind, types_kind, battery_kind, import_kind, export_kind, demand_kind, generation_kind, closing_kind}
+use Rattle.period.specs.Words.{values, word, field_values, battery_word, half_hours_kind, types_kind, battery_kind, import_kind, export_kind, demand_kind, generation_kind, closing_kind, lowest_field, highest_field, most_field, charging_field, discharging_field}
 use Rattle.period.specs.declared.kinds.Field.{Field as BatteryField}
 use Rattle.period.specs.declared.kinds.Field.TheVariants.{Lowest, Highest, Most, Charging, Discharging}
 use Rattle.period.specs.declared.kinds.Kind.{Kind as WordKind}
@@ -22,11 +22,11 @@ kind_number Closing = closing_kind
 
 -- the number that a battery word has for its field
 abbrev pub field_number : BatteryField → ℕ
-field_number Lowest = 0
-field_number Highest = 1
-field_number Most = 2
-field_number Charging = 3
-field_number Discharging = 4
+field_number Lowest = lowest_field
+field_number Highest = highest_field
+field_number Most = most_field
+field_number Charging = charging_field
+field_number Discharging = discharging_field
 
 -- what a battery's rating has for a field
 abbrev pub field_in : BatteryField → Rating → ℕ

@@ -3,7 +3,7 @@ use Rattle.std.specs.Prelude.{◌≡◌, ℕ, ◌≤◌, List, [], ◌∷◌, �
 use Rattle.battery.specs.Ratings.{Rated}
 use Rattle.battery.specs.declared.rating.Rating.{Rating}
 use Rattle.period.specs.Limits.{most_half_hours, most_types, most_value}
-use Rattle.period.specs.Words.{word, battery_word, half_hours_kind, types_kind, import_kind, export_kind, demand_kind, generation_kind, closing_kind}
+use Rattle.period.specs.Words.{word, battery_word, half_hours_kind, types_kind, import_kind, export_kind, demand_kind, generation_kind, closing_kind, lowest_field, highest_field, most_field, charging_field, discharging_field}
 
 -- one half-hour as it is written: a tariff may be left out, and demands are given type by type
 pub record Entry : Type 0 where
@@ -43,11 +43,11 @@ entries_words (e ∷ es) = entry_words e ++ entries_words es
 -- the words of the battery, field by field
 abbrev pub rating_words : Rating → List ℕ
 rating_words b =
-    battery_word 0 b.lowest
-    ∷ battery_word 1 b.highest
-    ∷ battery_word 2 b.most
-    ∷ battery_word 3 b.charging
-    ∷ battery_word 4 b.discharging
+    battery_word lowest_field b.lowest
+    ∷ battery_word highest_field b.highest
+    ∷ battery_word most_field b.most
+    ∷ battery_word charging_field b.charging
+    ∷ battery_word discharging_field b.discharging
     ∷ []
 
 -- all words but the last
@@ -78,6 +78,7 @@ pub record EntryWithin (types : ℕ) (e : Entry) : Type 0 where
   pub demands_within : AllWithin e.demands
   pub generation_within : e.generation ≤ most_value
 
+-- so does each half-hour
 abbrev pub EntriesWithin : ℕ → List Entry → Type 0
 EntriesWithin types [] = Unit {0}
 EntriesWithin types (e ∷ es) = EntryWithin types e × EntriesWithin types es
@@ -106,3 +107,8 @@ pub record WithinLimits (p : Page) : Type 0 where
 pub record Writes (p : Page) (ws : List ℕ) : Type 0 where
   pub within : WithinLimits p
   pub as_written : ws ≡ written p
+
+-- what words say: there is a page that they write down, and this holds of each
+pub record Says (ws : List ℕ) (P : Page → Type 0) : Type 0 where
+  pub a_page : (p : Page) × Writes p ws
+  pub of_each : (p : Page) → Writes p ws → P p

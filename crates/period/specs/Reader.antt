@@ -5,7 +5,7 @@ use Rattle.battery.specs.Ratings.{most_charge, most_moved, whole}
 use Rattle.battery.specs.declared.rating.Rating.{Rating}
 use Rattle.period.specs.Limits.{most_half_hours, most_types, most_value}
 use Rattle.period.specs.Pages.{Entry, Page}
-use Rattle.period.specs.Words.{word, battery_word, half_hours_kind, types_kind, import_kind, export_kind, demand_kind, generation_kind, closing_kind}
+use Rattle.period.specs.Words.{word, battery_word, half_hours_kind, types_kind, import_kind, export_kind, demand_kind, generation_kind, closing_kind, lowest_field, highest_field, most_field, charging_field, discharging_field}
 use Rattle.period.specs.declared.refusals.Part.{Part}
 use Rattle.period.specs.declared.refusals.Part.TheVariants.{Length, Types, Battery, HalfHour, Closing}
 use Rattle.period.specs.declared.refusals.PeriodRefusal.{PeriodRefusal}
@@ -76,11 +76,11 @@ field f = one Battery (battery_word f 0)
 -- the battery words; the highest charge is no lower than the lowest
 abbrev pub rating : (Rating → Reader) → Reader
 rating next =
-    field 0 0 most_charge
-    (λ lowest. field 1 lowest most_charge
-    (λ highest. field 2 0 most_moved
-    (λ most. field 3 1 whole
-    (λ charging. field 4 1 whole
+    field lowest_field 0 most_charge
+    (λ lowest. field highest_field lowest most_charge
+    (λ highest. field most_field 0 most_moved
+    (λ most. field charging_field 1 whole
+    (λ charging. field discharging_field 1 whole
     (λ discharging. next (record { lowest = lowest; highest = highest; most = most; charging = charging; discharging = discharging }))))))
 
 -- nothing more
@@ -100,6 +100,7 @@ period =
     (λ t. one Types (word types_kind 0) 1 most_types
     (λ k. rating (λ b. entries t k (λ es. close (record { types = k; rating = b; entries = es })))))
 
+-- and what it answers, from the first word on
 abbrev pub read : List ℕ → Result Page PeriodRefusal
 read ws = period ws 0
 
@@ -112,5 +113,6 @@ abbrev pub page_or : Result Page PeriodRefusal → Page
 page_or (Ok p) = p
 page_or (Err e) = record { types = 0; rating = record { lowest = 0; highest = 0; most = 0; charging = 0; discharging = 0 }; entries = [] }
 
+-- the page of words
 abbrev pub page_of : List ℕ → Page
 page_of ws = page_or (read ws)

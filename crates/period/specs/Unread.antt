@@ -15,10 +15,11 @@ stands kind (w ∷ ws) = kind_of w == kind
 abbrev pub first_value : List ℕ → ℕ
 first_value ws = value_of (slice_index ws 0)
 
--- a tariff, which the first word gives if it is of that kind, and what is left then
+-- a tariff, which the first word gives if it is of that kind
 abbrev pub tariff_in : ℕ → ℕ → List ℕ → ℕ
 tariff_in kind before ws = cond (stands kind ws) (first_value ws) before
 
+-- what is left behind such a word, and behind both tariffs
 abbrev pub past : ℕ → List ℕ → List ℕ
 past kind ws = cond (stands kind ws) (drop 1 ws) ws
 

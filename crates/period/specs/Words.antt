@@ -3,7 +3,7 @@ use Rattle.std.specs.Prelude.{ℕ, ◌+◌, ◌*◌, ◌/◌, ◌%◌}
 
 -- how many values there are: 28 bits of them
 abbrev pub values : ℕ
-values = 268435456
+values = 0x10000000
 
 -- the word of a kind with a value, and the two parts of a word
 abbrev pub word : ℕ → ℕ → ℕ
@@ -40,18 +40,35 @@ generation_kind = 7
 abbrev pub closing_kind : ℕ
 closing_kind = 15
 
--- a battery word: bits 27 to 24 are the field, the low 24 its value
+-- a battery word: bits 27 to 24 of it are the field, the low 24 the field's value, of which there are so many
 abbrev pub field_values : ℕ
-field_values = 16777216
+field_values = 0x1000000
 
 abbrev pub battery_word : ℕ → ℕ → ℕ
 battery_word field value = word battery_kind (field * field_values + value)
 
+-- and the two parts of its value
 abbrev pub field_of : ℕ → ℕ
 field_of w = w / field_values % 16
 
 abbrev pub field_value_of : ℕ → ℕ
 field_value_of w = w % field_values
+
+-- the fields
+abbrev pub lowest_field : ℕ
+lowest_field = 0
+
+abbrev pub highest_field : ℕ
+highest_field = 1
+
+abbrev pub most_field : ℕ
+most_field = 2
+
+abbrev pub charging_field : ℕ
+charging_field = 3
+
+abbrev pub discharging_field : ℕ
+discharging_field = 4
 
 -- how many battery words there are, one for each field
 abbrev pub battery_words : ℕ

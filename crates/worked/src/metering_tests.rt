@@ -6,16 +6,11 @@ use period::Period;
 use std::process::Abort;
 use std::test::Fail;
 
-// What a group costs by the grid over these words, or the number by which people know the fault.
-fn grid_cost_of(words: &[u32], counts: [u8; 4]) -> Result<Result<i64, u8>, Fail> {
+// What homes of type 1 cost by the grid over these words, or the number by which people know the fault.
+fn grid_cost(words: &[u32], homes: u8) -> Result<Result<i64, u8>, Fail> {
     let mut period = Period::built_in();
     fill_period(&mut period, words)?;
-    Ok(cost_by(&GridRule::on(period), counts))
-}
-
-// The same of homes of type 1.
-fn grid_cost(words: &[u32], homes: u8) -> Result<Result<i64, u8>, Fail> {
-    grid_cost_of(words, [homes, 0, 0, 0])
+    Ok(cost_by(&GridRule::on(period), [homes, 0, 0, 0]))
 }
 
 // Sets the price of a rule, or tells the number by which people know the refusal.
@@ -58,40 +53,39 @@ fn the_sum_is_divided_once_and_rounded_down(rt: HostRuntime) -> Result<(), Fail>
     Ok(())
 }
 
-// 24 homes, 20,000 watt-hours each, in each of 17,568 half-hours: at 1 for 1,000 that costs 8,432,640, and at the highest tariff more than any
-// group may cost. A home of another type has no readings, which goes before that.
+// 24 homes of four types, 20,000 watt-hours each, in each of 17,568 half-hours: 8,432,640,000. Demanded, they are imported. Generated, those of the first five
+// half-hours fill the battery, which holds 24 x 100,000, and the rest is exported. By the highest tariffs either is more than a group may cost.
 #[test]
 fn the_largest_walk_does_not_overflow(rt: HostRuntime) -> Result<(), Fail> {
-    assert_eq!(rt; grid_cost(&largest_at(1), 24)?, Ok(8_432_640));
-    assert_eq!(rt; grid_cost(&largest_at(20_000), 24)?, Err(10));
-    check_beyond_limits(&rt, &largest_at(20_000))
+    check_largest(&rt, &longest(1, 20_000, 0), Ok(8_432_640))?;
+    check_largest(&rt, &longest(1, 0, 20_000), Ok(-8_430_240))?;
+    check_largest(&rt, &longest(20_000, 20_000, 0), Err(10))?;
+    check_largest(&rt, &longest(20_000, 0, 20_000), Err(10))
 }
 
-fn largest_at(tariff: u16) -> [u32; 35_146] {
-    let mut words = leap_year(20_000);
-    words[7] = 0x40000000 + u32::from(tariff);
-    words
-}
-
-fn check_beyond_limits(rt: &impl Abort, words: &[u32]) -> Result<(), Fail> {
+fn check_largest(rt: &impl Abort, words: &[u32], expected: Result<i64, u8>) -> Result<(), Fail> {
     let mut period = Period::built_in();
     fill_period(&mut period, words)?;
-    assert_eq!(rt; cost_by(&GridRule::on(period), [23, 0, 0, 1]), Err(12));
+    assert_eq!(rt; cost_by(&GridRule::on(period), [6; 4]), expected);
+    Ok(())
+}
+
+// 366 days at the highest demand and the highest tariff cost more than any group may cost, and so does their peak at the highest price; but that a home of
+// another type has no readings goes before that.
+#[test]
+fn readings_are_wanted_before_a_cost_within_the_limits(rt: HostRuntime) -> Result<(), Fail> {
+    let mut words = leap_year(20_000);
+    words[7] = 0x40000000 + 20_000;
+    let mut period = Period::built_in();
+    fill_period(&mut period, &words)?;
+    let grid = GridRule::on(period);
+    assert_eq!(rt; cost_by(&grid, [24, 0, 0, 0]), Err(10));
+    assert_eq!(rt; cost_by(&grid, [23, 0, 0, 1]), Err(12));
     let mut peak = PeakRule::built_in();
     set_price(&mut peak, period, 1_000_000)?;
     assert_eq!(rt; cost_by(&peak, [12, 0, 0, 0]), Ok(480_000_000));
     assert_eq!(rt; cost_by(&peak, [24, 0, 0, 0]), Err(10));
     assert_eq!(rt; cost_by(&peak, [23, 1, 0, 0]), Err(12));
-    Ok(())
-}
-
-// 24 homes that use nothing export what is left of 24 x 20,000 watt-hours in each of 17,568 half-hours, 8,432,640,000. The battery takes 12,000 of them twice, which
-// it stores as 10,800, and then 2,666, stored as 2,399. That leaves room for 1, so that it takes 1 in each of the 17,565 half-hours that follow, of which it
-// stores nothing. So 44,231 are put in, and the rest brings in 8,432,595.769, which is rounded down below 0.
-#[test]
-fn the_longest_period_is_walked(rt: HostRuntime) -> Result<(), Fail> {
-    assert_eq!(rt; grid_cost_of(&longest(20_000, 0), [6; 4])?, Ok(8_432_640));
-    assert_eq!(rt; grid_cost_of(&longest(0, 20_000), [6; 4])?, Ok(-8_432_596));
     Ok(())
 }
 

@@ -31,17 +31,20 @@ pub(crate) fn fill_period<'a>(
         .map_err(|refusal| (refusal.number(), refusal.place))
 }
 
-// The longest period: readings for four types and both tariffs, 1 for 1,000 watt-hours, in each of 17,568 half-hours, with the worked period's battery. Each home
-// has the same demand and generation.
-pub(crate) fn longest(demand: u16, generation: u16) -> [u32; 122_984] {
+// The longest period: readings for four types and both tariffs in each of 17,568 half-hours, all the same, with the largest battery, which loses nothing.
+pub(crate) fn longest(tariff: u16, demand: u16, generation: u16) -> [u32; 122_984] {
     array::from_fn(|place| match place {
         0 => 0x10000000 + 17_568,
         1 => 0x20000004,
-        2..=6 => WORKED[place],
+        2 => 0x30000000,
+        3 => 0x31000000 + 100_000,
+        4 => 0x32000000 + 50_000,
+        5 => 0x33000064,
+        6 => 0x34000064,
         122_983 => 0xF0000000 + 122_983,
         _ => match place % 7 {
-            0 => 0x40000001,
-            1 => 0x50000001,
+            0 => 0x40000000 + u32::from(tariff),
+            1 => 0x50000000 + u32::from(tariff),
             6 => 0x70000000 + u32::from(generation),
             _ => 0x60000000 + u32::from(demand),
         },

@@ -3,7 +3,7 @@ ghost use Rattle.std.specs.Prelude.{◌≡◌};
 ghost use Rattle.period.specs.Filled.{page};
 ghost use Rattle.period.specs.InForce.{readings};
 ghost use Rattle.period.specs.Labels.{field_in};
-ghost use Rattle.period.specs.Pages.{Page, Writes};
+ghost use Rattle.period.specs.Pages.{Says};
 ghost use Rattle.period.specs.Told.{left_in};
 
 use super::Period;
@@ -29,7 +29,7 @@ impl<'a> Period<'a> {
     // For how many types it has readings: types 1 to that number.
     pub fn types(&self) -> u8
         ensures value { result ≡ (page self.now).types }
-        ensures law { (p : Page) → Writes p self.now.words.now → result ≡ p.types }
+        ensures law { Says self.now.words.now (λ p. result ≡ p.types) }
     {
         value(self.words[TYPES_AT]) as u8
     }
@@ -44,7 +44,7 @@ impl<'a> Period<'a> {
     // Its battery, as it is for one home.
     pub fn battery(&self) -> Battery
         ensures value { result.rating ≡ (page self.now).rating }
-        ensures law { (p : Page) → Writes p self.now.words.now → result.rating ≡ p.rating }
+        ensures law { Says self.now.words.now (λ p. result.rating ≡ p.rating) }
     {
         Battery {
             rating: Rating {
@@ -60,7 +60,7 @@ impl<'a> Period<'a> {
     // Its half-hours, from the first on.
     pub fn readings(&self) -> Readings<'a>
         ensures value { left_in result ≡ readings (page self.now) }
-        ensures law { (p : Page) → Writes p self.now.words.now → left_in result ≡ readings p }
+        ensures law { Says self.now.words.now (λ p. left_in result ≡ readings p) }
     {
         Readings {
             rest: &self.words[HALF_HOURS_AT..],

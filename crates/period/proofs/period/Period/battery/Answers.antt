@@ -1,6 +1,6 @@
-use Rattle.std.proofs.Common.{ap}
-use Rattle.period.proofs.AcceptedPages.{begins, only_page}
-use Rattle.period.specs.Pages.{Page}
+use Rattle.std.proofs.Common.{◌≡◌, refl}
+use Rattle.period.proofs.AcceptedPages.{begins, says}
+use Rattle.period.specs.Filled.{page}
 use Rattle.period.proofs.period.Period.battery.Goals as goal
 
 pub invariant_of-result : goal.invariant_of-result
@@ -12,6 +12,6 @@ invariant_of-result c =
     }
 
 pub returns-clause-law : goal.returns-clause-law
-returns-clause-law c = λ p w.
+returns-clause-law c =
     rw (c.field.ensures, c.field-2.ensures, c.field-3.ensures, c.field-4.ensures, c.field-5.ensures)
-    (ap (λ (q : Page). q.rating) (only_page c.args.self.now.words.now p w))
+    (says c.args.self.now.words.now c.args.self.now.accepted (λ p. (page c.args.self.now).rating ≡ p.rating) refl)

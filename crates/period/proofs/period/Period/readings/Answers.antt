@@ -1,6 +1,6 @@
-use Rattle.std.proofs.Common.{◌≡◌, ◌-◌, length, take, drop, ap, ◌∙◌, arith}
+use Rattle.std.proofs.Common.{◌≡◌, ◌-◌, length, take, drop, arith}
 use Rattle.std.proofs.lemmas.List.{take_rest}
-use Rattle.period.proofs.AcceptedPages.{begins, only_page}
+use Rattle.period.proofs.AcceptedPages.{begins, says}
 use Rattle.period.specs.Filled.{page}
 use Rattle.period.specs.InForce.{readings, no_tariffs}
 use Rattle.period.specs.Unread.{unread}
@@ -18,4 +18,4 @@ returns c =
     let half_hours : c.value.result ≡ length (page c.args.self.now).entries = omega (arith, c.value.ensures, p.half_hours) in
     let told : unread c.value.result c.types.result no_tariffs (take (length words - 7) (drop 7 words)) ≡ readings (page c.args.self.now) =
     rw (half_hours, c.types.ensures.value, take_rest words 7) p.readings in
-    record { value = told; law = λ q w. told ∙ ap readings (only_page words q w) }
+    record { value = told; law = says words c.args.self.now.accepted (λ q. unread c.value.result c.types.result no_tariffs (take (length words - 7) (drop 7 words)) ≡ readings q) told }
