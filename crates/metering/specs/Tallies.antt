@@ -1,4 +1,4 @@
--- How large a half-hour can be, so that tallies do not overflow, and what a tally amounts to on its way.
+-- How large a half-hour can be, so that tallies do not overflow, and what a tally amounts to on its way. Only contracts inside the crate cite this.
 use Rattle.std.specs.Prelude.{◌≡◌, ℕ, ◌+◌, ◌*◌, ◌/◌, ◌^◌, ◌<◌, ◌≤◌, max, List, [], ◌∷◌, All, ℤ, pos, ◌+ℤ◌, ◌-ℤ◌}
 use Rattle.std.specs.Int.{int_div_euclid}
 use Rattle.composition.specs.Counts.{most}

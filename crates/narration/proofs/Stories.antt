@@ -1,5 +1,6 @@
 -- How an account goes on.
-use Rattle.std.proofs.Common.{ℕ, List, ℤ, Ok, Result}
+use Rattle.std.proofs.Common.{◌≡◌, ℕ, List, ℤ, pos, Ok, Err, Result, IfErr, true, false, subst, arith}
+use Rattle.std.proofs.lemmas.Int.{ints}
 use Rattle.cost_rules.specs.Meanings.{Meaning, Lawful}
 use Rattle.account.specs.Calls.{Joined, Drafted, Posted, Withdrawn}
 use Rattle.account.specs.Runs.{joins, drafts, posts, withdraws}
@@ -7,6 +8,12 @@ use Rattle.account.specs.Terms.{today}
 use Rattle.account.specs.declared.account.Account.{Account}
 use Rattle.account.specs.declared.draft.Draft.{Draft}
 use Rattle.account.specs.declared.refusals.JoinRefusal.{JoinRefusal}
+use Rattle.metering.specs.Filled.{PeakFilled}
+use Rattle.metering.specs.Promise.{PeakPromise}
+use Rattle.metering.specs.declared.metered_rule.MeteredRule.{MeteredRule}
+use Rattle.metering.specs.declared.peak_tally.PeakTally.{PeakTally}
+use Rattle.metering.specs.declared.refusals.PriceOutside.{PriceOutside}
+use Rattle.period.specs.declared.period.Period.{Period}
 use Rattle.narration.specs.Story.{GoesOn}
 
 pub after_join : (a b : Account) (number : ℕ) (r : Result (Unit {0}) JoinRefusal) → Joined a number r b → GoesOn a b
@@ -19,3 +26,15 @@ after_posting f a b d table after lawful drafted posted last been = posts (draft
 pub after_withdrawal :
     (f : Meaning) (a b : Account) (d : Draft) (table after : List ℤ) → Lawful f → Drafted today f a table (Ok d) after → Withdrawn d b → GoesOn a b
 after_withdrawal f a b d table after lawful drafted withdrawn last been = withdraws (drafts been f lawful table after drafted) withdrawn
+
+-- a peak rule that was filled, and not refused, is the rule at that price
+pub at_price :
+    (price : ℕ) (period : Period) (old new : MeteredRule PeakTally) (f : Meaning) (r : Result (Unit {0}) PriceOutside)
+    → PeakFilled period (pos price) old r new
+    → IfErr r (λ e. false ≡ true)
+    → PeakPromise new.period.words.now new.tally.price.value f
+    → PeakPromise period.words.now price f
+at_price price period old new f (Ok done) filled taken promise =
+    let value : new.tally.price.value ≡ price = omega (arith, ints, filled.1.price_is) in
+    subst (λ (p : Period). PeakPromise p.words.now price f) filled.1.period_is (subst (λ n. PeakPromise new.period.words.now n f) value promise)
+at_price price period old new f (Err e) filled taken promise = cc

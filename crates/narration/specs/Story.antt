@@ -1,11 +1,13 @@
 -- What is promised of an account whose story is told.
 use Rattle.std.specs.Prelude.{ℕ, List, ℤ, Ok}
 use Rattle.cost_rules.specs.Meanings.{Meaning}
+use Rattle.cost_rules.specs.Sums.{sum_of}
 use Rattle.account.specs.Calls.{Drafted, Posted, Withdrawn}
 use Rattle.account.specs.Runs.{account_open, Run}
 use Rattle.account.specs.Terms.{today}
 use Rattle.account.specs.declared.account.Account.{Account}
 use Rattle.account.specs.declared.draft.Draft.{Draft}
+use Rattle.metering.specs.Promise.{GridPromise, PeakPromise}
 
 -- this is what an account opened after a last bill number can have been through, so that all holds of it that is promised of accounts
 abbrev pub Been : ℕ → Account → Type 0
@@ -22,3 +24,15 @@ DraftPosted f a table after b = (d : Draft) × Drafted today f a table (Ok d) af
 -- and after one that was withdrawn
 abbrev pub DraftWithdrawn : Meaning → Account → List ℤ → List ℤ → Account → Type 0
 DraftWithdrawn f a table after b = (d : Draft) × Drafted today f a table (Ok d) after × Withdrawn d b
+
+-- an account after a draft by the meter that was posted: what the grid charges over a period that some words write down, and what the highest half-hour in it
+-- costs at a price
+pub record PostedByMeter (price : ℕ) (a b : Account) : Type 0 where
+  pub words : List ℕ
+  pub grid : Meaning
+  pub peak : Meaning
+  pub grid_charges : GridPromise words grid
+  pub peak_costs : PeakPromise words price peak
+  pub table : List ℤ
+  pub after : List ℤ
+  pub posted : DraftPosted (sum_of grid peak) a table after b

@@ -1,11 +1,12 @@
 // The account goes on by the meter: readings are checked, and bills drafted by what the grid charges and by the highest half-hour.
-ghost use Rattle.std.specs.Prelude.{IfOk};
-ghost use Rattle.narration.specs.Story.{GoesOn};
+ghost use Rattle.std.specs.Prelude.{IfOk, ◌≡◌};
+ghost use Rattle.metering.specs.Promise.{PeakPromise};
+ghost use Rattle.narration.specs.Story.{GoesOn, PostedByMeter};
 
 use crate::drafts::draft_and_post;
 use crate::refused::unless_refused;
 use account::Account;
-use cost_rules::SumRule;
+use cost_rules::{CostRule, SumRule};
 use metering::{GridRule, PeakRule};
 use period::Period;
 use refusal::Refusal;
@@ -33,7 +34,8 @@ static READINGS: [u32; 16] = [
 
 // The account as it stands afterwards.
 pub fn by_the_meter(rt: &impl Print, account: Account) -> anyhow::Result<Account>
-    ensures { IfOk result (GoesOn account) }
+    ensures posted { IfOk result (PostedByMeter 100 account) }
+    ensures goes_on { IfOk result (GoesOn account) }
 {
     let mut period = Period::built_in();
     check(rt, &mut period, &READINGS[..15])?;
@@ -74,7 +76,9 @@ fn show_readings(rt: &impl Print, period: &Period) -> io::Result<()> {
     Ok(())
 }
 
-fn peak_rule<'a>(rt: &impl Print, period: Period<'a>) -> anyhow::Result<PeakRule<'a>> {
+fn peak_rule<'a>(rt: &impl Print, period: Period<'a>) -> anyhow::Result<PeakRule<'a>>
+    ensures { IfOk result (λ rule. PeakPromise period.entry.words.now 100 (⟦<PeakRule<'a> as CostRule>⟧.meaning rule)) }
+{
     let mut rule = PeakRule::built_in();
     let answer = rule.fill(period, 100);
     unless_refused(rt, answer, "A price would be set.", "the price is no rule")?;
