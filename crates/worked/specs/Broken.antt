@@ -1,5 +1,5 @@
 -- A rule from outside the crate of rules: nobody costs nothing, and every other group has the same fault.
-use Rattle.std.specs.Prelude.{◌≡◌, ℕ, Bool, true, false, cond, pos, Ok, Err, ◌==◌, refl}
+use Rattle.std.specs.Prelude.{◌≡◌, Bool, true, false, cond, pos, Ok, Err, ◌==◌, refl}
 use Rattle.std.proofs.Common.{arith}
 use Rattle.std.proofs.lemmas.Int.{ints}
 use Rattle.composition.specs.Counts.{total}
