@@ -78,7 +78,7 @@ balances p rated =
 pub on_words : (cost : List HalfHour → ℤ) (ws : List ℕ) → accepts ws ≡ true → OnWords cost ws (metered cost (page_of ws))
 on_words cost ws ok =
     record {
-      metered = says ws ok (λ p. MeteredBy cost p (metered cost (page_of ws))) (metered_by cost (page_of ws));
+      metered_by_each = says ws ok (λ p. MeteredBy cost p (metered cost (page_of ws))) (metered_by cost (page_of ws));
       walks_balance = says ws ok Balances (balances (page_of ws) (begins ws ok).within.rated);
     }
 

@@ -29,7 +29,7 @@ pub record Balances (p : Page) : Type 0 where
 
 -- a meaning that stands on words: what they say is what groups pay for
 pub record OnWords (cost : List HalfHour → ℤ) (ws : List ℕ) (f : Meaning) : Type 0 where
-  pub metered : Says ws (λ p. MeteredBy cost p f)
+  pub metered_by_each : Says ws (λ p. MeteredBy cost p f)
   pub walks_balance : Says ws Balances
 
 -- the grid rule: the cost is the sum of all half-hours, divided once and rounded down

@@ -12,24 +12,24 @@ use period::Period;
 use refusal::Refusal;
 use std::io;
 
-// Two half-hours of readings for homes of types 1 and 2. The first has 1,000 Wh of generation for each home, the second none.
+// Readings for homes of types 1 and 2, in watt-hours. docs/METERING.md says how words are read, and works these out by hand.
 static READINGS: [u32; 16] = [
-    0x1000_0002,
-    0x2000_0002,
-    0x3000_0000,
-    0x3100_03E8,
-    0x3200_01F4,
-    0x3300_005A,
-    0x3400_005A,
-    0x4000_0BB8,
-    0x5000_01F4,
-    0x6000_00C8,
-    0x6000_0320,
-    0x7000_03E8,
-    0x6000_0384,
-    0x6000_02BC,
-    0x7000_0000,
-    0xF000_000F,
+    0x1000_0002, // two half-hours
+    0x2000_0002, // two types
+    0x3000_0000, // the battery: from 0
+    0x3100_03E8, // to 1,000
+    0x3200_01F4, // up to 500 in a half-hour
+    0x3300_005A, // 90% of what is put in is stored
+    0x3400_005A, // 90% of what is drawn comes out
+    0x4000_0BB8, // import tariff 3,000
+    0x5000_01F4, // export tariff 500
+    0x6000_00C8, // demand of type 1: 200
+    0x6000_0320, // of type 2: 800
+    0x7000_03E8, // generation 1,000
+    0x6000_0384, // demand of type 1: 900
+    0x6000_02BC, // of type 2: 700
+    0x7000_0000, // generation 0
+    0xF000_000F, // closed at place 15
 ];
 
 // The account as it stands afterwards.
