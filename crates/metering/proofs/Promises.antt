@@ -74,13 +74,11 @@ balances p rated =
       each_is_sound = λ g. all_sound p.rating g (start p.rating g) (readings p) rated (starts g);
     }
 
--- so it is of all that accepted words say, whatever the cost of half-hours
+-- accepted words say that groups pay the cost of their half-hours, whatever that is, and that all walks are balanced
 pub on_words : (cost : List HalfHour → ℤ) (ws : List ℕ) → accepts ws ≡ true → OnWords cost ws (metered cost (page_of ws))
 on_words cost ws ok =
-    record {
-      metered_by_each = says ws ok (λ p. MeteredBy cost p (metered cost (page_of ws))) (metered_by cost (page_of ws));
-      walks_balance = says ws ok Balances (balances (page_of ws) (begins ws ok).within.rated);
-    }
+    let f = metered cost (page_of ws) in
+    says ws ok (λ p. MeteredBy cost p f × Balances p) (metered_by cost (page_of ws), balances (page_of ws) (begins ws ok).within.rated)
 
 -- ---- the grid rule
 

@@ -4,7 +4,7 @@ use Rattle.std.specs.Int.{int_div_euclid}
 use Rattle.metering.specs.Limits.{unit}
 use Rattle.metering.specs.declared.half_hour.HalfHour.{HalfHour}
 
--- one half-hour: its import at the import tariff, less its export at the export tariff, by the watt-hour: in thousandths of a hundredth of a penny
+-- one half-hour: its import times the import tariff, less its export times the export tariff; in thousandths of a hundredth of a penny, since tariffs are for 1,000 watt-hours
 abbrev pub amount : HalfHour → ℤ
 amount h = pos (h.import * h.tariffs.import) -ℤ pos (h.export * h.tariffs.export)
 

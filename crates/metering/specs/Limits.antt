@@ -1,4 +1,4 @@
--- What tariffs and prices are for, and what a price may be.
+-- How much a tariff and a price are for, and what a price may be.
 use Rattle.std.specs.Prelude.{ℕ}
 
 -- a tariff is for so many watt-hours, and the price of a peak for so many watts

@@ -8,7 +8,7 @@ abbrev pub peak : List HalfHour → ℕ
 peak [] = 0
 peak (h ∷ hs) = max (h.demand - h.generation) (peak hs)
 
--- twice the peak, which is in watts what it is in watt-hours of a half-hour, at a price: divided and rounded down
+-- the peak in watts, which is twice its watt-hours in a half-hour, times a price for 1,000 watts: divided and rounded down
 abbrev pub peak_cost : ℕ → List HalfHour → ℤ
 peak_cost price hs = pos (2 * peak hs * price / unit)
 

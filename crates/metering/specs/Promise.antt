@@ -27,10 +27,9 @@ pub record Balances (p : Page) : Type 0 where
   pub starts_in_bounds : (g : Group) → InBounds p.rating g.homes (start p.rating g)
   pub each_is_sound : (g : Group) → AllSound p.rating g (start p.rating g) (readings p) (half_hours_of p g)
 
--- a meaning that stands on words: what they say is what groups pay for
-pub record OnWords (cost : List HalfHour → ℤ) (ws : List ℕ) (f : Meaning) : Type 0 where
-  pub metered_by_each : Says ws (λ p. MeteredBy cost p f)
-  pub walks_balance : Says ws Balances
+-- a meaning that stands on words: groups pay for the half-hours that these say, and every walk through them is balanced
+abbrev pub OnWords : (List HalfHour → ℤ) → List ℕ → Meaning → Type 0
+OnWords cost ws f = Says ws (λ p. MeteredBy cost p f × Balances p)
 
 -- the grid rule: the cost is the sum of all half-hours, divided once and rounded down
 pub record GridPromise (ws : List ℕ) (f : Meaning) : Type 0 where

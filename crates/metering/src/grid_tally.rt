@@ -4,7 +4,7 @@ ghost use Rattle.metering.specs.Owed.{idle_grid};
 ghost use Rattle.metering.specs.Tallies.{Room, grid_over};
 
 use crate::half_hour::HalfHour;
-use crate::tally::Tally;
+use crate::tally::{Tally, UNIT};
 use rounding::{Divisor, round_down};
 
 // It fixes nothing beforehand: the tariffs come with the half-hours.
@@ -43,6 +43,6 @@ impl Tally for GridTally {
     // Divided once, at the end, so that no half-hour is rounded.
     fn cost(self, so_far: Traded) -> i64 {
         let owed = so_far.paid as i64 - so_far.earned as i64;
-        round_down(owed, Divisor { value: 1000 })
+        round_down(owed, Divisor { value: UNIT })
     }
 }

@@ -5,7 +5,7 @@ ghost use Rattle.metering.specs.Tallies.{peak_over};
 
 use crate::half_hour::HalfHour;
 use crate::price::Price;
-use crate::tally::Tally;
+use crate::tally::{Tally, UNIT};
 
 #[derive(Clone, Copy)]
 pub struct PeakTally {
@@ -33,6 +33,6 @@ impl Tally for PeakTally {
     }
 
     fn cost(self, peak: u32) -> i64 {
-        (2 * u64::from(peak) * u64::from(self.price.value) / 1000) as i64
+        (2 * u64::from(peak) * u64::from(self.price.value) / UNIT) as i64
     }
 }

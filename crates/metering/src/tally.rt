@@ -6,6 +6,9 @@ ghost use Rattle.metering.specs.declared.half_hour.HalfHour.{HalfHour as Half};
 
 use crate::half_hour::HalfHour;
 
+// How much a tariff and a price are for: so many watt-hours, or watts.
+pub(crate) const UNIT: u64 = 1000;
+
 // A tally is what a rule fixes beforehand; what it keeps of a walk is a value apart. The rule holds the tally itself: with a value of an associated type in it,
 // it could not be copied.
 pub(crate) trait Tally: Copy {

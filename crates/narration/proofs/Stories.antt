@@ -1,4 +1,4 @@
--- How an account goes on.
+-- How an account goes on, and that a filled peak rule is at its price.
 use Rattle.std.proofs.Common.{◌≡◌, ℕ, List, ℤ, pos, Ok, Err, Result, IfErr, true, false, subst, arith}
 use Rattle.std.proofs.lemmas.Int.{ints}
 use Rattle.cost_rules.specs.Meanings.{Meaning, Lawful}

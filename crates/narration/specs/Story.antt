@@ -25,14 +25,17 @@ DraftPosted f a table after b = (d : Draft) × Drafted today f a table (Ok d) af
 abbrev pub DraftWithdrawn : Meaning → Account → List ℤ → List ℤ → Account → Type 0
 DraftWithdrawn f a table after b = (d : Draft) × Drafted today f a table (Ok d) after × Withdrawn d b
 
--- an account after a draft by the meter that was posted: what the grid charges over a period that some words write down, and what the highest half-hour in it
--- costs at a price
-pub record PostedByMeter (price : ℕ) (a b : Account) : Type 0 where
+-- the price of the story's peak, in hundredths of a penny for 1,000 watts
+abbrev pub peak_price : ℕ
+peak_price = 100
+
+-- an account after a draft that was posted, by the sum of what the grid charges over a period that some words write down and what its highest half-hour costs
+pub record PostedByMeter (a b : Account) : Type 0 where
   pub words : List ℕ
   pub grid : Meaning
   pub peak : Meaning
   pub grid_charges : GridPromise words grid
-  pub peak_costs : PeakPromise words price peak
+  pub peak_costs : PeakPromise words peak_price peak
   pub table : List ℤ
   pub after : List ℤ
   pub posted : DraftPosted (sum_of grid peak) a table after b

@@ -1,7 +1,7 @@
 // The account goes on by the meter: readings are checked, and bills drafted by what the grid charges and by the highest half-hour.
 ghost use Rattle.std.specs.Prelude.{IfOk, ◌≡◌};
 ghost use Rattle.metering.specs.Promise.{PeakPromise};
-ghost use Rattle.narration.specs.Story.{GoesOn, PostedByMeter};
+ghost use Rattle.narration.specs.Story.{GoesOn, PostedByMeter, peak_price};
 
 use crate::drafts::draft_and_post;
 use crate::refused::unless_refused;
@@ -14,27 +14,30 @@ use std::io;
 
 // Readings for homes of types 1 and 2, in watt-hours. docs/METERING.md says how words are read, and works these out by hand.
 static READINGS: [u32; 16] = [
-    0x1000_0002, // two half-hours
-    0x2000_0002, // two types
-    0x3000_0000, // the battery: from 0
-    0x3100_03E8, // to 1,000
-    0x3200_01F4, // up to 500 in a half-hour
-    0x3300_005A, // 90% of what is put in is stored
-    0x3400_005A, // 90% of what is drawn comes out
-    0x4000_0BB8, // import tariff 3,000
-    0x5000_01F4, // export tariff 500
-    0x6000_00C8, // demand of type 1: 200
-    0x6000_0320, // of type 2: 800
-    0x7000_03E8, // generation 1,000
-    0x6000_0384, // demand of type 1: 900
-    0x6000_02BC, // of type 2: 700
-    0x7000_0000, // generation 0
-    0xF000_000F, // closed at place 15
+    0x10000002, // two half-hours
+    0x20000002, // two types
+    0x30000000, // the battery: from 0
+    0x310003E8, // to 1,000
+    0x320001F4, // up to 500 in a half-hour
+    0x3300005A, // 90% of what is put in is stored
+    0x3400005A, // 90% of what is drawn comes out
+    0x40000BB8, // import tariff 3,000
+    0x500001F4, // export tariff 500
+    0x600000C8, // demand of type 1: 200
+    0x60000320, // of type 2: 800
+    0x700003E8, // generation 1,000
+    0x60000384, // demand of type 1: 900
+    0x600002BC, // of type 2: 700
+    0x70000000, // generation 0
+    0xF000000F, // closed at place 15
 ];
+
+// What each 1,000 watts of the highest half-hour cost, in hundredths of a penny.
+const PRICE: i64 = 100;
 
 // The account as it stands afterwards.
 pub fn by_the_meter(rt: &impl Print, account: Account) -> anyhow::Result<Account>
-    ensures posted { IfOk result (PostedByMeter 100 account) }
+    ensures posted { IfOk result (PostedByMeter account) }
     ensures goes_on { IfOk result (GoesOn account) }
 {
     let mut period = Period::built_in();
@@ -77,13 +80,13 @@ fn show_readings(rt: &impl Print, period: &Period) -> io::Result<()> {
 }
 
 fn peak_rule<'a>(rt: &impl Print, period: Period<'a>) -> anyhow::Result<PeakRule<'a>>
-    ensures { IfOk result (λ rule. PeakPromise period.entry.words.now 100 (⟦<PeakRule<'a> as CostRule>⟧.meaning rule)) }
+    ensures { IfOk result (λ rule. PeakPromise period.entry.words.now peak_price (⟦<PeakRule<'a> as CostRule>⟧.meaning rule)) }
 {
     let mut rule = PeakRule::built_in();
-    let answer = rule.fill(period, 100);
+    let answer = rule.fill(period, PRICE);
     unless_refused(rt, answer, "A price would be set.", "the price is no rule")?;
     println!(rt;
-        "Bills are now by the meter: what the grid charges, and 100 for each 1,000 W of the highest half-hour."
+        "Bills are now by the meter: what the grid charges, and {PRICE} for each 1,000 W of the highest half-hour."
     )?;
     Ok(rule)
 }

@@ -78,7 +78,7 @@ pub record EntryWithin (types : ℕ) (e : Entry) : Type 0 where
   pub demands_within : AllWithin e.demands
   pub generation_within : e.generation ≤ most_value
 
--- so does each half-hour
+-- and so in each half-hour
 abbrev pub EntriesWithin : ℕ → List Entry → Type 0
 EntriesWithin types [] = Unit {0}
 EntriesWithin types (e ∷ es) = EntryWithin types e × EntriesWithin types es

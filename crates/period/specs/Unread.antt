@@ -15,11 +15,11 @@ stands kind (w ∷ ws) = kind_of w == kind
 abbrev pub first_value : List ℕ → ℕ
 first_value ws = value_of (slice_index ws 0)
 
--- a tariff, which the first word gives if it is of that kind
+-- a tariff, which the first word gives if it is of that kind, else the one before
 abbrev pub tariff_in : ℕ → ℕ → List ℕ → ℕ
 tariff_in kind before ws = cond (stands kind ws) (first_value ws) before
 
--- what is left behind such a word, and behind both tariffs
+-- what is left when such a word is passed over, if it stands there; and when both tariffs are
 abbrev pub past : ℕ → List ℕ → List ℕ
 past kind ws = cond (stands kind ws) (drop 1 ws) ws
 

@@ -40,16 +40,17 @@ generation_kind = 7
 abbrev pub closing_kind : ℕ
 closing_kind = 15
 
--- a battery word: bits 27 to 24 of it are the field, the low 24 the field's value, of which there are so many
+-- how many values a field has: 24 bits of them
 abbrev pub field_values : ℕ
 field_values = 0x1000000
 
+-- a battery word: its value has the field in the top 4 bits and the field's value in the low 24
 abbrev pub battery_word : ℕ → ℕ → ℕ
 battery_word field value = word battery_kind (field * field_values + value)
 
--- and the two parts of its value
+-- and these two parts of it
 abbrev pub field_of : ℕ → ℕ
-field_of w = w / field_values % 16
+field_of w = value_of w / field_values
 
 abbrev pub field_value_of : ℕ → ℕ
 field_value_of w = w % field_values

@@ -6,11 +6,11 @@ use period::Period;
 use std::process::Abort;
 use std::test::Fail;
 
-// What homes of type 1 cost by the grid over these words, or the number by which people know the fault.
-fn grid_cost(words: &[u32], homes: u8) -> Result<Result<i64, u8>, Fail> {
+// What a group costs by the grid over these words, or the number by which people know the fault.
+fn grid_cost(words: &[u32], homes: [u8; 4]) -> Result<Result<i64, u8>, Fail> {
     let mut period = Period::built_in();
     fill_period(&mut period, words)?;
-    Ok(cost_by(&GridRule::on(period), [homes, 0, 0, 0]))
+    Ok(cost_by(&GridRule::on(period), homes))
 }
 
 // Sets the price of a rule, or tells the number by which people know the refusal.
@@ -21,9 +21,9 @@ fn set_price<'a>(rule: &mut PeakRule<'a>, period: Period<'a>, price: i64) -> Res
 // 495 imported at 3,000 less 300 exported at 500, by a thousandth. The second half-hour lacks 900, which are 1,800 watts.
 #[test]
 fn the_worked_period_costs_1335_and_its_peak_180(rt: HostRuntime) -> Result<(), Fail> {
-    assert_eq!(rt; grid_cost(&WORKED, 0)?, Ok(0));
-    assert_eq!(rt; grid_cost(&WORKED, 1)?, Ok(1335));
-    assert_eq!(rt; grid_cost(&WORKED, 2)?, Ok(2670));
+    assert_eq!(rt; grid_cost(&WORKED, [0; 4])?, Ok(0));
+    assert_eq!(rt; grid_cost(&WORKED, [1, 0, 0, 0])?, Ok(1335));
+    assert_eq!(rt; grid_cost(&WORKED, [2, 0, 0, 0])?, Ok(2670));
     let mut period = Period::built_in();
     fill_period(&mut period, &WORKED)?;
     let mut peak = PeakRule::built_in();
@@ -44,36 +44,31 @@ fn the_sum_is_divided_once_and_rounded_down(rt: HostRuntime) -> Result<(), Fail>
     words[9] = 0x60000001;
     words[10] = 0x70000000;
     words[11] = 0x60000001;
-    assert_eq!(rt; grid_cost(&words, 1)?, Ok(1));
+    assert_eq!(rt; grid_cost(&words, [1, 0, 0, 0])?, Ok(1));
     words[9] = 0x60000000;
     words[10] = 0x70000001;
     words[11] = 0x60000000;
     words[12] = 0x70000001;
-    assert_eq!(rt; grid_cost(&words, 1)?, Ok(-2));
+    assert_eq!(rt; grid_cost(&words, [1, 0, 0, 0])?, Ok(-2));
     Ok(())
 }
 
 // 24 homes of four types, 20,000 watt-hours each, in each of 17,568 half-hours: 8,432,640,000. Demanded, they are imported. Generated, those of the first five
-// half-hours fill the battery, which holds 24 x 100,000, and the rest is exported. By the highest tariffs either is more than a group may cost.
+// half-hours fill the battery, which holds 24 x 100,000, and 8,430,240,000 are exported. At 1 for 1,000 that costs 8,432,640, or brings in 8,430,240; at the highest tariffs
+// either lies outside the limits.
 #[test]
 fn the_largest_walk_does_not_overflow(rt: HostRuntime) -> Result<(), Fail> {
-    check_largest(&rt, &longest(1, 20_000, 0), Ok(8_432_640))?;
-    check_largest(&rt, &longest(1, 0, 20_000), Ok(-8_430_240))?;
-    check_largest(&rt, &longest(20_000, 20_000, 0), Err(10))?;
-    check_largest(&rt, &longest(20_000, 0, 20_000), Err(10))
-}
-
-fn check_largest(rt: &impl Abort, words: &[u32], expected: Result<i64, u8>) -> Result<(), Fail> {
-    let mut period = Period::built_in();
-    fill_period(&mut period, words)?;
-    assert_eq!(rt; cost_by(&GridRule::on(period), [6; 4]), expected);
+    assert_eq!(rt; grid_cost(&longest(1, 20_000, 0), [6; 4])?, Ok(8_432_640));
+    assert_eq!(rt; grid_cost(&longest(1, 0, 20_000), [6; 4])?, Ok(-8_430_240));
+    assert_eq!(rt; grid_cost(&longest(20_000, 20_000, 0), [6; 4])?, Err(10));
+    assert_eq!(rt; grid_cost(&longest(20_000, 0, 20_000), [6; 4])?, Err(10));
     Ok(())
 }
 
-// 366 days at the highest demand and the highest tariff cost more than any group may cost, and so does their peak at the highest price; but that a home of
-// another type has no readings goes before that.
+// 366 days at the highest demand, tariff and price: 24 homes cost more than any group may, by the grid and by their peak, but that one of them has no readings goes
+// before that. Of 12 homes the peak is 12 x 20,000, which are 480,000 watts and cost 480,000,000.
 #[test]
-fn readings_are_wanted_before_a_cost_within_the_limits(rt: HostRuntime) -> Result<(), Fail> {
+fn missing_readings_go_before_a_cost_outside_the_limits(rt: HostRuntime) -> Result<(), Fail> {
     let mut words = leap_year(20_000);
     words[7] = 0x40000000 + 20_000;
     let mut period = Period::built_in();

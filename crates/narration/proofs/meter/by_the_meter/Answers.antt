@@ -14,7 +14,7 @@ returns-clause-posted g c =
     let period = c.check-2.new.period in
     let grid = metered grid_cost (page c.on.result.period) in
     let right = c.in_ok-peak_rule.field-0 in
-    IfOk-weaker c.draft_and_post.result _ (PostedByMeter 100 c.args.account)
+    IfOk-weaker c.draft_and_post.result _ (PostedByMeter c.args.account)
     (λ b posted. record {
       words = period.words.now;
       grid = grid;
