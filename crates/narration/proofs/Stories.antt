@@ -1,5 +1,5 @@
--- How an account goes on, and that a filled peak rule is at its price.
-use Rattle.std.proofs.Common.{◌≡◌, ℕ, List, ℤ, pos, Ok, Err, Result, IfErr, true, false, subst, arith}
+-- How an account goes on, that the story's readings are taken, and that a filled peak rule is at its price.
+use Rattle.std.proofs.Common.{◌≡◌, ℕ, List, ℤ, pos, Ok, Err, Result, IfErr, true, false, refl, subst, arith}
 use Rattle.std.proofs.lemmas.Int.{ints}
 use Rattle.cost_rules.specs.Meanings.{Meaning, Lawful}
 use Rattle.account.specs.Calls.{Joined, Drafted, Posted, Withdrawn}
@@ -13,8 +13,12 @@ use Rattle.metering.specs.Promise.{PeakPromise}
 use Rattle.metering.specs.declared.metered_rule.MeteredRule.{MeteredRule}
 use Rattle.metering.specs.declared.peak_tally.PeakTally.{PeakTally}
 use Rattle.metering.specs.declared.refusals.PriceOutside.{PriceOutside}
+use Rattle.period.proofs.AcceptedPages.{accepted_writes}
+use Rattle.period.specs.Filled.{Filled}
+use Rattle.period.specs.Reader.{page_of}
 use Rattle.period.specs.declared.period.Period.{Period}
-use Rattle.narration.specs.Story.{GoesOn}
+use Rattle.period.specs.declared.refusals.PeriodRefusal.{PeriodRefusal}
+use Rattle.narration.specs.Story.{GoesOn, readings_words}
 
 pub after_join : (a b : Account) (number : ℕ) (r : Result (Unit {0}) JoinRefusal) → Joined a number r b → GoesOn a b
 after_join a b number r joined last been = joins been number r joined
@@ -26,6 +30,11 @@ after_posting f a b d table after lawful drafted posted last been = posts (draft
 pub after_withdrawal :
     (f : Meaning) (a b : Account) (d : Draft) (table after : List ℤ) → Lawful f → Drafted today f a table (Ok d) after → Withdrawn d b → GoesOn a b
 after_withdrawal f a b d table after lawful drafted withdrawn last been = withdraws (drafts been f lawful table after drafted) withdrawn
+
+-- the story's readings are a period, so that filling one by them is not refused
+pub readings_taken : (old new : Period) (r : Result (Unit {0}) PeriodRefusal) → Filled readings_words old r new → new.words.now ≡ readings_words
+readings_taken old new (Ok done) filled = filled.0
+readings_taken old new (Err e) filled = absurd (filled.1.no_period (page_of readings_words) (accepted_writes readings_words refl))
 
 -- a peak rule that was filled, and not refused, is the rule at that price
 pub at_price :

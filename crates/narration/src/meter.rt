@@ -1,5 +1,7 @@
 // The account goes on by the meter: readings are checked, and bills drafted by what the grid charges and by the highest half-hour.
-ghost use Rattle.std.specs.Prelude.{IfOk, ◌≡◌};
+ghost use Rattle.std.specs.Prelude.{IfOk, Result, ◌≡◌};
+ghost use Rattle.period.specs.Filled.{Filled};
+ghost use Rattle.period.specs.declared.refusals.PeriodRefusal.{PeriodRefusal as Refused};
 ghost use Rattle.metering.specs.Promise.{PeakPromise};
 ghost use Rattle.narration.specs.Story.{GoesOn, PostedByMeter, peak_price};
 
@@ -52,7 +54,9 @@ pub fn by_the_meter(rt: &impl Print, account: Account) -> anyhow::Result<Account
 }
 
 // Takes readings into the period, or says which word offends and keeps what it had.
-fn check<'a>(rt: &impl Print, period: &mut Period<'a>, words: &'a [u32]) -> io::Result<()> {
+fn check<'a>(rt: &impl Print, period: &mut Period<'a>, words: &'a [u32]) -> io::Result<()>
+    ensures { (answer : Result (Unit {0}) Refused) × Filled words.now period.old answer period.new }
+{
     let count = words.len();
     match period.fill(words) {
         Ok(()) => println!(rt; "Readings in {count} words are checked and taken."),
