@@ -1,6 +1,7 @@
 pub mod AcceptedDrafts
 pub mod ChargesMade
 pub mod FilledTables
+pub mod GoingOn
 pub mod HomesCounted
 pub mod PostedBills
 pub mod Promises

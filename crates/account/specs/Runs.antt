@@ -8,7 +8,7 @@ use Rattle.cost_rules.specs.Meanings.{Meaning, Lawful}
 use Rattle.shapley.specs.Subsets.{counts_of}
 use Rattle.account.specs.Bills.{cost_by, homes_in, line_of}
 use Rattle.account.specs.Calls.{Opened, Joined, Departed, Drafted, Posted, Withdrawn}
-use Rattle.account.specs.Terms.{Terms}
+use Rattle.account.specs.Terms.{Terms, today}
 use Rattle.account.specs.declared.account.Account.{Account}
 use Rattle.account.specs.declared.draft.Draft.{Draft}
 use Rattle.account.specs.declared.draft.Refused.{Refused}
@@ -49,6 +49,14 @@ pub data Run (terms : Terms) (last : ℕ) : Standing → Type 0 where
       → Run terms last (account_open e.account)
   posts : {a : Account} {d : Draft} {f : Meaning} → Run terms last (pending d f) → Posted d a → Run terms last (account_open a)
   withdraws : {a : Account} {d : Draft} {f : Meaning} → Run terms last (pending d f) → Withdrawn d a → Run terms last (account_open a)
+
+-- this is what an account opened after a last bill number can have been through, so that all holds of it that is promised of accounts
+abbrev pub Been : ℕ → Account → Type 0
+Been last a = Run today last (account_open a)
+
+-- an account goes on: whatever it has been through, it has been through by calls, and now by some more
+abbrev pub GoesOn : Account → Account → Type 0
+GoesOn a b = (last : ℕ) → Been last a → Been last b
 
 -- one for a call with the number of a type that was taken, else none
 abbrev pub taken : {E : Type 0} → ℕ → Result (Unit {0}) E → DemandType → ℕ

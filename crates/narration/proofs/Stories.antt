@@ -1,13 +1,7 @@
--- How an account goes on, that the story's readings are taken, and that a filled peak rule is at its price.
-use Rattle.std.proofs.Common.{◌≡◌, ℕ, List, ℤ, pos, Ok, Err, Result, IfErr, true, false, refl, subst, arith}
+-- That the story's readings are taken, and that a filled peak rule is at its price.
+use Rattle.std.proofs.Common.{◌≡◌, ℕ, pos, Ok, Err, Result, IfErr, true, false, refl, subst, arith}
 use Rattle.std.proofs.lemmas.Int.{ints}
-use Rattle.cost_rules.specs.Meanings.{Meaning, Lawful}
-use Rattle.account.specs.Calls.{Joined, Drafted, Posted, Withdrawn}
-use Rattle.account.specs.Runs.{joins, drafts, posts, withdraws}
-use Rattle.account.specs.Terms.{today}
-use Rattle.account.specs.declared.account.Account.{Account}
-use Rattle.account.specs.declared.draft.Draft.{Draft}
-use Rattle.account.specs.declared.refusals.JoinRefusal.{JoinRefusal}
+use Rattle.cost_rules.specs.Meanings.{Meaning}
 use Rattle.metering.specs.Filled.{PeakFilled}
 use Rattle.metering.specs.Promise.{PeakPromise}
 use Rattle.metering.specs.declared.metered_rule.MeteredRule.{MeteredRule}
@@ -18,18 +12,7 @@ use Rattle.period.specs.Filled.{Filled}
 use Rattle.period.specs.Reader.{page_of}
 use Rattle.period.specs.declared.period.Period.{Period}
 use Rattle.period.specs.declared.refusals.PeriodRefusal.{PeriodRefusal}
-use Rattle.narration.specs.Story.{GoesOn, readings_words}
-
-pub after_join : (a b : Account) (number : ℕ) (r : Result (Unit {0}) JoinRefusal) → Joined a number r b → GoesOn a b
-after_join a b number r joined last been = joins been number r joined
-
-pub after_posting :
-    (f : Meaning) (a b : Account) (d : Draft) (table after : List ℤ) → Lawful f → Drafted today f a table (Ok d) after → Posted d b → GoesOn a b
-after_posting f a b d table after lawful drafted posted last been = posts (drafts been f lawful table after drafted) posted
-
-pub after_withdrawal :
-    (f : Meaning) (a b : Account) (d : Draft) (table after : List ℤ) → Lawful f → Drafted today f a table (Ok d) after → Withdrawn d b → GoesOn a b
-after_withdrawal f a b d table after lawful drafted withdrawn last been = withdraws (drafts been f lawful table after drafted) withdrawn
+use Rattle.narration.specs.Story.{readings_words}
 
 -- the story's readings are a period, so that filling one by them is not refused
 pub readings_taken : (old new : Period) (r : Result (Unit {0}) PeriodRefusal) → Filled readings_words old r new → new.words.now ≡ readings_words

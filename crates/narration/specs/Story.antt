@@ -3,19 +3,10 @@ use Rattle.std.specs.Prelude.{ℕ, List, [], ◌∷◌, ℤ, Ok}
 use Rattle.cost_rules.specs.Meanings.{Meaning}
 use Rattle.cost_rules.specs.Sums.{sum_of}
 use Rattle.account.specs.Calls.{Drafted, Posted, Withdrawn}
-use Rattle.account.specs.Runs.{account_open, Run}
 use Rattle.account.specs.Terms.{today}
 use Rattle.account.specs.declared.account.Account.{Account}
 use Rattle.account.specs.declared.draft.Draft.{Draft}
 use Rattle.metering.specs.Promise.{GridPromise, PeakPromise}
-
--- this is what an account opened after a last bill number can have been through, so that all holds of it that is promised of accounts
-abbrev pub Been : ℕ → Account → Type 0
-Been last a = Run today last (account_open a)
-
--- an account goes on: whatever it has been through, it has been through by calls, and now by some more
-abbrev pub GoesOn : Account → Account → Type 0
-GoesOn a b = (last : ℕ) → Been last a → Been last b
 
 -- an account after a draft by a rule that means f, with a table before and after, that was posted
 abbrev pub DraftPosted : Meaning → Account → List ℤ → List ℤ → Account → Type 0

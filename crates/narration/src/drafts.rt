@@ -2,9 +2,10 @@
 // taken apart in it.
 ghost use Rattle.std.specs.Prelude.{IfOk, Ok, ◌≡◌};
 ghost use Rattle.account.specs.Calls.{Drafted};
+ghost use Rattle.account.specs.Runs.{GoesOn};
 ghost use Rattle.account.specs.Terms.{today};
 ghost use Rattle.account.specs.declared.draft.Draft.{Draft as ADraft};
-ghost use Rattle.narration.specs.Story.{DraftPosted, DraftWithdrawn, GoesOn};
+ghost use Rattle.narration.specs.Story.{DraftPosted, DraftWithdrawn};
 
 use crate::homes::show_account;
 use crate::refused::unless_refused;

@@ -1,6 +1,6 @@
 // Homes that join an account.
 ghost use Rattle.std.specs.Prelude.{IfOk};
-ghost use Rattle.narration.specs.Story.{Been, GoesOn};
+ghost use Rattle.account.specs.Runs.{Been, GoesOn};
 
 use account::Account;
 use refusal::Refusal;

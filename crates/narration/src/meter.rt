@@ -3,7 +3,8 @@ ghost use Rattle.std.specs.Prelude.{IfOk, Result, ◌≡◌};
 ghost use Rattle.period.specs.Filled.{Filled};
 ghost use Rattle.period.specs.declared.refusals.PeriodRefusal.{PeriodRefusal as Refused};
 ghost use Rattle.metering.specs.Promise.{PeakPromise};
-ghost use Rattle.narration.specs.Story.{GoesOn, PostedByMeter, peak_price};
+ghost use Rattle.account.specs.Runs.{GoesOn};
+ghost use Rattle.narration.specs.Story.{PostedByMeter, peak_price};
 
 use crate::drafts::draft_and_post;
 use crate::refused::unless_refused;

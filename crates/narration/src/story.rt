@@ -1,6 +1,6 @@
 // A walk through one account: homes join, one is refused, bills are drafted, posted and withdrawn, and a sum of rules is drafted by.
 ghost use Rattle.std.specs.Prelude.{IfOk};
-ghost use Rattle.narration.specs.Story.{Been};
+ghost use Rattle.account.specs.Runs.{Been};
 
 use crate::drafts::{draft_and_post, draft_and_withdraw};
 use crate::homes::open_and_join;

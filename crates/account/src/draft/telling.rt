@@ -1,17 +1,25 @@
 // What a draft tells.
 ghost use Rattle.std.specs.Prelude.{◌≡◌};
+ghost use Rattle.account.specs.Bills.{line_of};
 ghost use Rattle.account.specs.Calls.{LineRead};
 
 use super::Draft;
 use composition::{Composition, DemandType, NoSuchType};
 
 impl Draft {
-    // Share and bill of the type with this number; none if it has no homes. By number, since a narrower type would ask more of who calls.
+    // Share and bill of a type; none if it has no homes.
+    pub fn line_of(&self, of: DemandType) -> Option<(i64, i64)>
+        ensures { result ≡ line_of self.now of }
+    {
+        self.lines[of.position()]
+    }
+
+    // The line of the type with this number, as people know it.
     pub fn line(&self, number: u8) -> Result<Option<(i64, i64)>, NoSuchType>
         ensures { LineRead self.now number result }
     {
         let of = DemandType::try_from(number)?;
-        Ok(self.lines[of.position()])
+        Ok(self.line_of(of))
     }
 
     // The homes that are billed, by type and in all.

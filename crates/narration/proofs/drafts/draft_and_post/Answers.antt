@@ -1,7 +1,8 @@
 use Rattle.std.proofs.lemmas.Result.{IfOk-weaker}
 use Rattle.cost_rules.specs.Meanings.{Lawful}
-use Rattle.narration.specs.Story.{DraftPosted, GoesOn}
-use Rattle.narration.proofs.Stories.{after_posting}
+use Rattle.account.specs.Runs.{GoesOn}
+use Rattle.narration.specs.Story.{DraftPosted}
+use Rattle.account.proofs.GoingOn.{after_posting}
 use Rattle.narration.proofs.drafts.draft_and_post.Goals as goal
 
 pub returns-clause-goes_on : goal.returns-clause-goes_on

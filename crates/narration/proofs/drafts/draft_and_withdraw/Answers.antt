@@ -1,7 +1,8 @@
 use Rattle.std.proofs.lemmas.Result.{IfOk-weaker}
 use Rattle.cost_rules.specs.Meanings.{Lawful}
-use Rattle.narration.specs.Story.{DraftWithdrawn, GoesOn}
-use Rattle.narration.proofs.Stories.{after_withdrawal}
+use Rattle.account.specs.Runs.{GoesOn}
+use Rattle.narration.specs.Story.{DraftWithdrawn}
+use Rattle.account.proofs.GoingOn.{after_withdrawal}
 use Rattle.narration.proofs.drafts.draft_and_withdraw.Goals as goal
 
 pub returns-clause-goes_on : goal.returns-clause-goes_on

@@ -1,4 +1,4 @@
-use Rattle.narration.proofs.Stories.{after_join}
+use Rattle.account.proofs.GoingOn.{after_join}
 use Rattle.narration.proofs.homes.join.Goals as goal
 
 pub returns-in-Ok : goal.returns-in-Ok

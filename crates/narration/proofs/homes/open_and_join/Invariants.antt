@@ -1,4 +1,4 @@
-use Rattle.narration.specs.Story.{Been}
+use Rattle.account.specs.Runs.{Been}
 use Rattle.narration.proofs.homes.open_and_join.Given as goal
 
 abbrev pub invariant-loop-number : goal.invariant-loop-number
