@@ -3,3 +3,4 @@ pub mod Chains
 pub mod Changes
 pub mod Four
 pub mod Places
+pub mod Sizes

@@ -44,11 +44,15 @@ closing_kind = 15
 abbrev pub field_values : ℕ
 field_values = 0x1000000
 
--- a battery word: its value has the field in the top 4 bits and the field's value in the low 24
-abbrev pub battery_word : ℕ → ℕ → ℕ
-battery_word field value = word battery_kind (field * field_values + value)
+-- a word of a kind whose value has a field in the top 4 bits and the field's value in the low 24
+abbrev pub field_word : ℕ → ℕ → ℕ → ℕ
+field_word kind field value = word kind (field * field_values + value)
 
--- and these two parts of it
+-- a battery word is one
+abbrev pub battery_word : ℕ → ℕ → ℕ
+battery_word = field_word battery_kind
+
+-- the field of a word that has one, and the field's value
 abbrev pub field_of : ℕ → ℕ
 field_of w = value_of w / field_values
 

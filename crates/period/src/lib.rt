@@ -15,3 +15,4 @@ pub use period::Period;
 pub use reading::{Reading, Tariffs};
 pub use readings::Readings;
 pub use refusals::{Part, PeriodRefusal};
+pub use words::{field, field_value, kind};
