@@ -1,0 +1,6 @@
+mod FirstDrafts
+mod JoiningHomes
+mod KnownBytes
+mod ReadingRequests
+mod RowsWritten
+mod WritingWords

@@ -1,0 +1,6 @@
+pub mod Inputs
+pub mod Taking
+pub mod Requests
+pub mod Listings
+pub mod Refusals
+pub mod Texts
