@@ -5,20 +5,18 @@ use Rattle.composition.specs.Types.{position}
 use Rattle.composition.specs.declared.demand_type.DemandType.{DemandType}
 use Rattle.cost_rules.specs.Meanings.{Meaning, Lawful}
 use Rattle.cost_rules.specs.Sums.{sum_of}
-use Rattle.shapley.specs.Combinations.{factorial}
 use Rattle.shapley.specs.CommonMultiple.{LeastCommonMultiple}
-use Rattle.shapley.specs.Subsets.{shapley_sum, counts_of}
+use Rattle.shapley.specs.Subsets.{counts_of, IsShapleyShare}
 use Rattle.account.specs.Bills.{cost_by, homes_in, line_of, MadeOfShares}
 use Rattle.account.specs.Runs.{Standing, pending, account_of, Run, AreHomes, joins_taken, leaves_taken, posted_bills, posted_costs, last_billed}
 use Rattle.account.specs.Terms.{Terms}
 use Rattle.account.specs.declared.draft.Draft.{Draft}
 
--- the line of a home's type is present, and its share is the home's Shapley value over all subsets of the others,
--- each of which costs what its counts cost: (number of orders) × share = L × (sum over the subsets)
+-- the line of a home's type is present, and its share is the home's Shapley value over all subsets of the others, each of which costs what its counts cost
 pub record FairShare (c : List ℕ → ℤ) (d : Draft) (home : DemandType) (others : List DemandType) : Type 0 where
   pub line : ℤ × ℤ
   pub present : line_of d home ≡ Some line
-  pub shapley : pos (factorial (length (home ∷ others))) *ℤ line.0 ≡ pos d.lcm *ℤ shapley_sum (λ s. c (counts_of s)) home others
+  pub shapley : IsShapleyShare c home others d.lcm line.0
 
 -- the lines of a home's type in three drafts are present, and the third share is the first two added
 pub record SharesAdd (d e sum : Draft) (home : DemandType) : Type 0 where

@@ -1,6 +1,7 @@
 -- The numbers of refusals, as the world outside knows them.
 use Rattle.std.specs.Prelude.{ℕ}
 use Rattle.composition.specs.Refusals.{no_such_type}
+use Rattle.shapley.specs.Refusals.{table_too_short}
 use Rattle.account.specs.declared.refusals.JoinRefusal.{JoinRefusal}
 use Rattle.account.specs.declared.refusals.JoinRefusal.TheVariants.{NoSuchType as NoTypeToJoin, Full}
 use Rattle.account.specs.declared.refusals.LeaveRefusal.{LeaveRefusal}
@@ -21,6 +22,6 @@ leave_number NoneThere = 3
 -- drafting: no homes, too short a table, no bill number left, and a fault
 abbrev pub draft_number : DraftRefusal → ℕ
 draft_number NoHomes = 4
-draft_number TableTooShort = 5
+draft_number TableTooShort = table_too_short
 draft_number NumbersUsedUp = 6
 draft_number (Faulty place fault) = 7

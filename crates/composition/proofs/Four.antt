@@ -1,6 +1,9 @@
 -- Lists of four counts.
 use Rattle.std.proofs.Common.{◌≡◌, ℕ, zero, suc, ◌+◌, ◌*◌, ◌/◌, ◌%◌, ◌<◌, List, [], ◌∷◌, length, get_or, refl, add-zero, mul-zero, arith}
 use Rattle.composition.specs.Counts.{total, place, at_place, Inside, nobody}
+use Rattle.composition.specs.Types.{position}
+use Rattle.composition.specs.declared.demand_type.DemandType.{DemandType}
+use Rattle.composition.specs.declared.demand_type.DemandType.TheVariants.{One, Two, Three, Four}
 
 -- a list of four is its four entries
 pub split4 : {A : Type 0} (d : A) (xs : List A) → length xs ≡ 4 → xs ≡ get_or xs 0 d ∷ get_or xs 1 d ∷ get_or xs 2 d ∷ get_or xs 3 d ∷ []
@@ -51,3 +54,7 @@ each_of_four P a b c d (suc zero) h = b
 each_of_four P a b c d (suc (suc zero)) h = c
 each_of_four P a b c d (suc (suc (suc zero))) h = d
 each_of_four P a b c d (suc (suc (suc (suc i)))) h = absurd (omega arith)
+
+-- the types stand in the order of their positions
+pub in_order : (i : ℕ) (d : DemandType) → i < 4 → position (get_or (One ∷ Two ∷ Three ∷ Four ∷ []) i d) ≡ i
+in_order i d = each_of_four (λ i. position (get_or (One ∷ Two ∷ Three ∷ Four ∷ []) i d) ≡ i) refl refl refl refl i

@@ -73,7 +73,7 @@ orders_add_up ps =
 -- ---- picking among homes of several types
 
 -- the sum of g over the groups inside the counts, each as often as it can be picked
-abbrev grouped : List ℕ → (List ℕ → ℤ) → ℤ
+abbrev pub grouped : List ℕ → (List ℕ → ℤ) → ℤ
 grouped counts g = box_sum counts (λ n. pos (ways counts n) *ℤ g n)
 
 grouped_cong : (counts : List ℕ) (f g : List ℕ → ℤ) → ((n : List ℕ) → f n ≡ g n) → grouped counts f ≡ grouped counts g
@@ -97,7 +97,7 @@ grouped_first m ms g =
     apart a b x = ap (λ (y : ℤ). y *ℤ x) (*ℤ_comm a b) ∙ *ℤ_assoc b a x
 
 -- with one home more of a type, a pick leaves it or has it
-grouped_more : (counts : List ℕ) (i : ℕ) → i < length counts → (g : List ℕ → ℤ) → grouped (raised i counts) g ≡ grouped counts g +ℤ grouped counts (λ n. g (raised i n))
+pub grouped_more : (counts : List ℕ) (i : ℕ) → i < length counts → (g : List ℕ → ℤ) → grouped (raised i counts) g ≡ grouped counts g +ℤ grouped counts (λ n. g (raised i n))
 grouped_more [] i h g = absurd (omega arith)
 grouped_more (m ∷ ms) zero h g =
     grouped_first (m + 1) ms g

@@ -5,8 +5,9 @@ use Rattle.composition.proofs.Amounts.{between_fits}
 use Rattle.composition.proofs.Changes.{total_lowered}
 use Rattle.composition.proofs.Places.{inside_lowered, inside_total, place_below, raised_inside}
 use Rattle.composition.specs.Amounts.{Between}
-use Rattle.composition.specs.Counts.{most, total, size, Inside, place, at_place, raised, lowered}
+use Rattle.composition.specs.Counts.{most, total, count, size, Inside, place, at_place, raised, lowered}
 use Rattle.composition.specs.Types.{position}
+use Rattle.composition.specs.declared.demand_type.DemandType.{DemandType}
 use Rattle.cost_rules.specs.Limits.{limit, Within}
 use Rattle.shapley.proofs.Combinatorics.{ways_le_power}
 use Rattle.shapley.proofs.CommonMultiples.{lcm_to_small}
@@ -19,6 +20,7 @@ use Rattle.shapley.specs.CommonMultiple.{lcm_to}
 use Rattle.shapley.specs.CostTables.{added_in, cost_in, share_in, term_in}
 use Rattle.shapley.specs.Shares.{box_sum}
 use Rattle.shapley.specs.Weights.{weight}
+use Rattle.shapley.specs.declared.cost_table.CostTable.{CostTable}
 use Rattle.shapley.specs.declared.cost_table.home.Home.{Home}
 
 -- ---- how much a group counts
@@ -96,10 +98,10 @@ all_summed h =
     places_are_groups h.others.counts (term_in h.table h.of) ∙ ap (λ (ms : List ℕ). box_sum ms (term_in h.table h.of)) h.fewer
 
 -- by costs within their limits it fits: 24 homes' least common multiple times a thousand million is below 2 ^ 63
-pub share_fits : (h : Home) → SFits w64 (share_in h.table h.of)
-share_fits h =
-    let homes = h.table.homes in
-    between_fits w64 (lcm_to (total homes.counts) * (2 * limit)) (share_in h.table h.of)
+pub share_fits : (t : CostTable) (k : DemandType) → 0 < count (position k) t.homes.counts → SFits w64 (share_in t k)
+share_fits t k some =
+    let homes = t.homes in
+    between_fits w64 (lcm_to (total homes.counts) * (2 * limit)) (share_in t k)
     (omega (arith, lcm_to_small (total homes.counts) homes.few))
-    (share_bounded_by_counts limit (cost_in h.table) homes.counts h.of homes.four homes.few h.some
-    (λ n inside. h.table.limits (place homes.counts n) (place_below homes.counts n inside)))
+    (share_bounded_by_counts limit (cost_in t) homes.counts k homes.four homes.few some
+    (λ n inside. t.limits (place homes.counts n) (place_below homes.counts n inside)))

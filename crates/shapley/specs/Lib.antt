@@ -2,7 +2,9 @@ pub mod Combinations
 pub mod CommonMultiple
 pub mod CostTables
 pub mod Groups
+pub mod Refusals
 pub mod Shares
 pub mod Subsets
 pub mod Tables
+pub mod TablesMade
 pub mod Weights

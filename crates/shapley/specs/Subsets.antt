@@ -1,5 +1,5 @@
 -- The Shapley value: over all subsets of the other players, what a player adds, averaged over the orders of arrival.
-use Rattle.std.specs.Prelude.{ℕ, ◌-◌, ◌*◌, List, [], ◌∷◌, length, ℤ, pos, ◌+ℤ◌, ◌-ℤ◌, ◌*ℤ◌}
+use Rattle.std.specs.Prelude.{◌≡◌, ℕ, ◌-◌, ◌*◌, List, [], ◌∷◌, length, ℤ, pos, ◌+ℤ◌, ◌-ℤ◌, ◌*ℤ◌}
 use Rattle.composition.specs.Counts.{nobody, raised}
 use Rattle.composition.specs.Types.{position}
 use Rattle.composition.specs.declared.demand_type.DemandType.{DemandType}
@@ -21,3 +21,8 @@ shapley_sum value player others =
 abbrev pub counts_of : List DemandType → List ℕ
 counts_of [] = nobody
 counts_of (k ∷ ks) = raised (position k) (counts_of ks)
+
+-- h is the share of a home beside the others, over l, where homes together cost what their counts cost: its Shapley value is h / l, so that
+-- (number of orders) × h = l × (the sum over all subsets of the others)
+abbrev pub IsShapleyShare : (List ℕ → ℤ) → DemandType → List DemandType → ℕ → ℤ → Type 0
+IsShapleyShare c home others l h = pos (factorial (length (home ∷ others))) *ℤ h ≡ pos l *ℤ shapley_sum (λ s. c (counts_of s)) home others

@@ -7,6 +7,7 @@ use composition::Composition;
 
 mod group;
 mod home;
+mod making;
 mod share;
 
 #[derive(Clone, Copy)]

@@ -2,7 +2,9 @@
 #![tactic(auto)]
 
 mod cost_table;
+mod refusals;
 mod weight_table;
 
 pub use cost_table::CostTable;
+pub use refusals::TableRefusal;
 pub use weight_table::{lcm_to, weight};

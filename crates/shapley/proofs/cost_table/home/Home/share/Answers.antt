@@ -32,7 +32,9 @@ summed c =
     ∙ ap (λ (n : ℕ). place_sum n term) c.size.ensures ∙ all_summed home
 
 pub overflow_cast-result : goal.overflow_cast-result
-overflow_cast-result c = subst (SFits w64) (sym (summed c)) (share_fits c.args.self.now)
+overflow_cast-result c =
+    let home = c.args.self.now in
+    subst (SFits w64) (sym (summed c)) (share_fits home.table home.of home.some)
 
 pub returns : goal.returns
 returns c = to_z-of_z w64 _ (overflow_cast-result c) ∙ summed c
