@@ -1,5 +1,6 @@
 pub mod Terms
 pub mod Refusals
+pub mod Texts
 pub mod Filling
 pub mod Bills
 pub mod Charges

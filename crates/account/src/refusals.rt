@@ -1,27 +1,26 @@
 // Why a call on an account is refused, and under which number.
-ghost use Rattle.std.specs.Prelude.{◌≡◌};
+ghost use Rattle.std.specs.Prelude.{◌≡◌, Some};
 ghost use Rattle.account.specs.Refusals.{join_number, leave_number, draft_number};
+ghost use Rattle.account.specs.Texts.{join_text, leave_text};
 ghost use Rattle.account.specs.declared.refusals.JoinRefusal.TheVariants.{NoSuchType as NoTypeToJoin, Full};
 ghost use Rattle.account.specs.declared.refusals.LeaveRefusal.TheVariants.{NoSuchType as NoTypeToLeave};
 
 use composition::{NoSuchType, TooManyHomes};
 use cost_rules::Fault;
 use refusal::Refusal;
-use thiserror::Error;
+use std::fmt;
 
-#[derive(Clone, Copy, Debug, PartialEq, Eq, Error)]
+#[derive(Clone, Copy, Debug, PartialEq, Eq)]
 pub enum JoinRefusal {
-    #[error("there is no such type")]
     NoSuchType = 1,
-    #[error("there are 24 homes already")]
+    // there are 24 homes already
     Full = 2,
 }
 
-#[derive(Clone, Copy, Debug, PartialEq, Eq, Error)]
+#[derive(Clone, Copy, Debug, PartialEq, Eq)]
 pub enum LeaveRefusal {
-    #[error("there is no such type")]
     NoSuchType = 1,
-    #[error("there is no home of that type")]
+    // there is no home of that type
     NoneThere = 3,
 }
 
@@ -63,6 +62,30 @@ impl Refusal for DraftRefusal {
             DraftRefusal::NumbersUsedUp => 6,
             DraftRefusal::Faulty { .. } => 7,
         }
+    }
+}
+
+// In words, for whoever stands before the cabinet. Written out, and not derived, so that a contract has every byte.
+
+impl fmt::Display for JoinRefusal {
+    ghost output = { λ refusal. Some (join_text refusal) };
+
+    fn fmt<W: fmt::Write>(&self, f: &mut fmt::Formatter<W>) -> fmt::Result {
+        f.write_str(match *self {
+            JoinRefusal::NoSuchType => "there is no such type",
+            JoinRefusal::Full => "there are 24 homes already",
+        })
+    }
+}
+
+impl fmt::Display for LeaveRefusal {
+    ghost output = { λ refusal. Some (leave_text refusal) };
+
+    fn fmt<W: fmt::Write>(&self, f: &mut fmt::Formatter<W>) -> fmt::Result {
+        f.write_str(match *self {
+            LeaveRefusal::NoSuchType => "there is no such type",
+            LeaveRefusal::NoneThere => "there is no home of that type",
+        })
     }
 }
 
