@@ -1,0 +1,5 @@
+mod Averages
+mod Orders
+mod Recounting
+mod Splitting
+mod Together
