@@ -102,7 +102,7 @@ answered f a table after (Err e) s first long is drafted = rw is (go e.refusal d
     go (Faulty p fault) ground = ground
 
 -- what holds of each thing that an input asks for, another may follow from
-asks_weaker :
+pub asks_weaker :
     (input : List ℕ) (P Q : List ℕ → List ℕ → Type 0) → ((counts words : List ℕ) → P counts words → Q counts words) → Asks input P → Asks input Q
 asks_weaker input P Q weaker asks =
     record { a_request = asks.a_request; of_each = λ counts words written. weaker counts words (asks.of_each counts words written) }

@@ -102,10 +102,6 @@ word_of ws counts is Two = rw is refl
 word_of ws counts is Three = rw is refl
 word_of ws counts is Four = rw is refl
 
--- the types stand in the order of their positions
-pub in_order : (i : ℕ) (d : DemandType) → i < 4 → position (slice_index_or (One ∷ Two ∷ Three ∷ Four ∷ []) i d) ≡ i
-in_order i d = each_of_four (λ i. position (slice_index_or (One ∷ Two ∷ Three ∷ Four ∷ []) i d) ≡ i) refl refl refl refl i
-
 -- the homes of the first i types have joined, as their words say, and no others
 pub record NamedTo (ws : List ℕ) (i : ℕ) (a : Account) : Type 0 where
   pub been : Been 0 a

@@ -1,6 +1,6 @@
-mod FirstDrafts
+pub mod FirstDrafts
 mod JoiningHomes
 mod KnownBytes
 mod ReadingRequests
-mod RowsWritten
+pub mod RowsWritten
 mod WritingWords

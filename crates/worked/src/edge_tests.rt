@@ -62,10 +62,10 @@ fn the_lowest_share(rt: HostRuntime) -> Result<(), Fail> {
 }
 
 // 24 homes of all four types, 6 x 8 x 5 x 9 = 2160 groups. A group costs 500,000,000 if its place leaves 1 to 5 over when
-// divided by 11, or 0 and it is not nobody, and -500,000,000 else. The shares were added up apart from this program,
-// in whole numbers without limits, over all groups of the others: L / (24 x C(23, j)) for a group of j, for each of the
-// ways to pick it. 5 x 117,624,463 + 7 x 179,847,855 + 4 x 337,568,627 - 8 x 65,027,171 = L / 2, as it must be for a
-// cost of 500,000,000.
+// divided by 11, or 0 and it is not nobody, and -500,000,000 else. The shares were first added up
+// apart from this program, in whole numbers without limits; crates/recount_cases goes through all 8,388,608 groups of the
+// others one by one and comes to the same. 5 x 117,624,463 + 7 x 179,847,855 + 4 x 337,568,627 - 8 x 65,027,171 = L / 2, as
+// it must be for a cost of 500,000,000.
 #[test]
 fn shares_of_four_types_at_the_limits(rt: HostRuntime) -> Result<(), Fail> {
     let lines = [

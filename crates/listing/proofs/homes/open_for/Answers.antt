@@ -1,5 +1,6 @@
 use Rattle.std.proofs.Common.{◌≡◌, length, subst, rules, arith}
-use Rattle.listing.proofs.JoiningHomes.{NamedTo, in_order, none_named, one_more_named, all_named, not_named}
+use Rattle.composition.proofs.Four.{in_order}
+use Rattle.listing.proofs.JoiningHomes.{NamedTo, none_named, one_more_named, all_named, not_named}
 use Rattle.listing.proofs.homes.open_for.Goals as goal
 
 pub loop-of-init : goal.loop-of-init

@@ -1,0 +1,3 @@
+pub mod Counting
+pub mod Recounting
+pub mod Texts
