@@ -1,20 +1,23 @@
 -- What is promised of an account whose story is told.
-use Rattle.std.specs.Prelude.{ℕ, List, [], ◌∷◌, ℤ, Ok}
+use Rattle.std.specs.Prelude.{◌≡◌, ℕ, List, [], ◌∷◌, ℤ, Ok}
 use Rattle.cost_rules.specs.Meanings.{Meaning}
 use Rattle.cost_rules.specs.Sums.{sum_of}
-use Rattle.account.specs.Calls.{Drafted, Posted, Withdrawn}
+use Rattle.account.specs.Calls.{Drafted, Posted}
 use Rattle.account.specs.Terms.{today}
 use Rattle.account.specs.declared.account.Account.{Account}
 use Rattle.account.specs.declared.draft.Draft.{Draft}
+use Rattle.figures.specs.WorkedCases.{three_homes}
 use Rattle.metering.specs.Promise.{GridPromise, PeakPromise}
 
--- an account after a draft by a rule that means f, with a table before and after, that was posted
-abbrev pub DraftPosted : Meaning → Account → List ℤ → List ℤ → Account → Type 0
-DraftPosted f a table after b = (d : Draft) × Drafted today f a table (Ok d) after × Posted d b
+-- an account after a draft by a rule that means f, with a table before and after, came to this end
+abbrev pub DraftEnded : (Draft → Account → Type 0) → Meaning → Account → List ℤ → List ℤ → Account → Type 0
+DraftEnded End f a table after b = (d : Draft) × Drafted today f a table (Ok d) after × End d b
 
--- and after one that was withdrawn
-abbrev pub DraftWithdrawn : Meaning → Account → List ℤ → List ℤ → Account → Type 0
-DraftWithdrawn f a table after b = (d : Draft) × Drafted today f a table (Ok d) after × Withdrawn d b
+-- the account at the end of the story by lists and fees: who joined it, what four posted drafts left in its purse, and the number of the last bill
+pub record EndOfLists (a : Account) : Type 0 where
+  pub homes_are : a.homes.counts ≡ three_homes
+  pub purse_is : a.purse ≡ 60
+  pub last_is : a.last ≡ 4
 
 -- the price of the story's peak, in hundredths of a penny for 1,000 watts
 abbrev pub peak_price : ℕ
@@ -33,4 +36,4 @@ pub record PostedByMeter (a b : Account) : Type 0 where
   pub peak_costs : PeakPromise readings_words peak_price peak
   pub table : List ℤ
   pub after : List ℤ
-  pub posted : DraftPosted (sum_of grid peak) a table after b
+  pub posted : DraftEnded Posted (sum_of grid peak) a table after b

@@ -1,11 +1,10 @@
 // Drafts, and how they end. An account, a rule and a table go side by side, as a draft takes them: a struct of the three would be made for one call, and
 // taken apart in it.
 ghost use Rattle.std.specs.Prelude.{IfOk, Ok, ◌≡◌};
-ghost use Rattle.account.specs.Calls.{Drafted};
+ghost use Rattle.account.specs.Calls.{Drafted, Posted, Withdrawn};
 ghost use Rattle.account.specs.Runs.{GoesOn};
 ghost use Rattle.account.specs.Terms.{today};
-ghost use Rattle.account.specs.declared.draft.Draft.{Draft as ADraft};
-ghost use Rattle.narration.specs.Story.{DraftPosted, DraftWithdrawn};
+ghost use Rattle.narration.specs.Story.{DraftEnded};
 
 use crate::homes::show_account;
 use crate::refused::unless_refused;
@@ -21,7 +20,7 @@ pub(crate) fn draft_and_post<R: CostRule>(
     rule: &R,
     table: &mut [i64],
 ) -> anyhow::Result<Account>
-    ensures posted { IfOk result (DraftPosted (R.CostRule.meaning rule.now) account table.old table.new) }
+    ensures posted { IfOk result (DraftEnded Posted (R.CostRule.meaning rule.now) account table.old table.new) }
     ensures goes_on { IfOk result (GoesOn account) }
 {
     draft_and(rt, account, rule, table, Draft::post, "posted")
@@ -34,7 +33,7 @@ pub(crate) fn draft_and_withdraw<R: CostRule>(
     rule: &R,
     table: &mut [i64],
 ) -> anyhow::Result<Account>
-    ensures withdrawn { IfOk result (DraftWithdrawn (R.CostRule.meaning rule.now) account table.old table.new) }
+    ensures withdrawn { IfOk result (DraftEnded Withdrawn (R.CostRule.meaning rule.now) account table.old table.new) }
     ensures goes_on { IfOk result (GoesOn account) }
 {
     draft_and(rt, account, rule, table, Draft::withdraw, "withdrawn")
@@ -50,7 +49,7 @@ fn draft_and<R: CostRule, E: FnOnce(Draft) -> Account>(
     ended: &str,
 ) -> anyhow::Result<Account>
     requires { E.IsAlwaysCallable end }
-    ensures { IfOk result (λ b. (d : ADraft) × Drafted today (R.CostRule.meaning rule.now) account table.old (Ok d) table.new × E.post end d b) }
+    ensures { IfOk result (DraftEnded (E.post end) (R.CostRule.meaning rule.now) account table.old table.new) }
 {
     let account = end(draft(rt, account, rule, table)?);
     println!(rt; "The draft is {ended}.")?;

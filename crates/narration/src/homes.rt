@@ -1,6 +1,10 @@
 // Homes that join an account.
-ghost use Rattle.std.specs.Prelude.{IfOk};
-ghost use Rattle.account.specs.Runs.{Been, GoesOn};
+ghost use Rattle.std.specs.Prelude.{IfOk, Result};
+ghost use Rattle.account.specs.Calls.{Joined};
+ghost use Rattle.account.specs.Runs.{Been};
+ghost use Rattle.account.specs.declared.refusals.JoinRefusal.{JoinRefusal as Refused};
+ghost use Rattle.figures.specs.Accounts.{NewlyJoined};
+ghost use Rattle.figures.specs.WorkedCases.{three_homes};
 
 use account::Account;
 use refusal::Refusal;
@@ -8,7 +12,8 @@ use std::io;
 
 // A new account that four homes would join, each by the number of its type, as `join` takes it: the last is of a type that there is not.
 pub(crate) fn open_and_join(rt: &impl Print) -> io::Result<Account>
-    ensures { IfOk result (Been 0) }
+    ensures been { IfOk result (Been 0) }
+    ensures joined { IfOk result (NewlyJoined three_homes) }
 {
     let mut account = Account::open_after(0);
     println!(rt; "An account is opened. Its last bill has the number 0.")?;
@@ -20,7 +25,7 @@ pub(crate) fn open_and_join(rt: &impl Print) -> io::Result<Account>
 }
 
 fn join(rt: &impl Print, account: &mut Account, number: u8) -> io::Result<()>
-    ensures { GoesOn account.old account.new }
+    ensures { (answer : Result (Unit {0}) Refused) × Joined account.old number answer account.new }
 {
     match account.join(number) {
         Ok(()) => println!(rt; "A home of type {number} joins."),

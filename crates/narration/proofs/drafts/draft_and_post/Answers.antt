@@ -1,7 +1,8 @@
 use Rattle.std.proofs.lemmas.Result.{IfOk-weaker}
 use Rattle.cost_rules.specs.Meanings.{Lawful}
 use Rattle.account.specs.Runs.{GoesOn}
-use Rattle.narration.specs.Story.{DraftPosted}
+use Rattle.account.specs.Calls.{Posted}
+use Rattle.narration.specs.Story.{DraftEnded}
 use Rattle.account.proofs.GoingOn.{after_posting}
 use Rattle.narration.proofs.drafts.draft_and_post.Goals as goal
 
@@ -14,5 +15,5 @@ returns-clause-goes_on g c =
 
 pub returns-clause-posted : goal.returns-clause-posted
 returns-clause-posted g c =
-    IfOk-weaker c.draft_and.result _ (DraftPosted (g.R.CostRule.meaning c.args.rule.now) c.args.account c.args.table.now c.draft_and.new.table)
+    IfOk-weaker c.draft_and.result _ (DraftEnded Posted (g.R.CostRule.meaning c.args.rule.now) c.args.account c.args.table.now c.draft_and.new.table)
     (λ b done. (done.0, done.1, done.2.1)) c.draft_and.ensures

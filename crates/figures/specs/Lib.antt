@@ -1,0 +1,4 @@
+pub mod Accounts
+pub mod Bills
+pub mod WorkedCases
+pub mod Workings
