@@ -1,0 +1,2 @@
+pub mod EndingDrafts
+pub mod LinesInside

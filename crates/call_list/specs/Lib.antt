@@ -1,0 +1,4 @@
+pub mod Accounts
+pub mod Holding
+pub mod Noting
+pub mod Lists
