@@ -1,0 +1,3 @@
+pub mod ReadingLines
+pub mod TellingLines
+pub mod ListsRun

@@ -1,0 +1,3 @@
+pub mod Ledgers
+pub mod Reading
+pub mod Runs
