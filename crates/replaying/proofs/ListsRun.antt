@@ -5,7 +5,7 @@ use Rattle.rule_book.specs.Meanings.{means}
 use Rattle.answers.specs.declared.outcome.Outcome.TheVariants.{Unreadable}
 use Rattle.cost_rules.specs.Meanings.{Meaning}
 use Rattle.account.specs.Calls.{Posted, Withdrawn, Drafted as Drafted_by}
-use Rattle.account.specs.Runs.{opens, joins, leaves, drafts, refused, posts, withdraws}
+use Rattle.account.specs.Runs.{Run, pending, opens, joins, leaves, drafts, refused, posts, withdraws}
 use Rattle.account.specs.Terms.{today}
 use Rattle.account.specs.declared.account.Account.{Account}
 use Rattle.account.specs.declared.draft.Draft.{Draft}
@@ -16,7 +16,7 @@ use Rattle.ledger_lines.specs.declared.line.Line.TheVariants.{List as Begin, End
 use Rattle.call_list.specs.Accounts.{OnOpen, OnDraft, JoinTaken, LeaveTaken, DraftTaken, DraftShown, EndTaken}
 use Rattle.replaying.specs.Ledgers.{ComesOf, Outside, Told, nothing_yet, and_then}
 use Rattle.call_list.specs.Lists.{GoesOnWith, Inside, IfRule}
-use Rattle.replaying.specs.Runs.{Went, ListsAreRuns}
+use Rattle.replaying.specs.Runs.{Went, ListsAreRuns, DraftsAreByTheirRules}
 use Rattle.call_list.specs.declared.session.Session.{Session}
 use Rattle.call_list.specs.declared.standing.Standing.{Standing}
 use Rattle.call_list.specs.declared.standing.Standing.TheVariants.{Open, Drafted}
@@ -115,3 +115,20 @@ told_went (and_then {before = before} {after = after} told text line read o c) =
 
 pub lists_are_runs : ListsAreRuns
 lists_are_runs lines s out told = told_went told
+
+-- a draft by f goes on as one by f
+drafted_by :
+    (last : ℕ) (f : Meaning) (table : List ℤ) (a : Account) (o : Outcome) (d : Draft)
+    → DraftTaken f table a o (Drafted d)
+    → Went last (Open a)
+    → Run today last (pending d f)
+drafted_by last f table a o d taken been = go taken.result taken.drafted taken.told
+  where
+    go : (r : Result Draft Refused) → Drafted_by today f a table r taken.after → DraftShown r taken.after o (Drafted d) → Run today last (pending d f)
+    go (Ok draft) by told = let same : draft ≡ d = cc in subst (λ d. Run today last (pending d f)) same (drafts been f taken.lawful table taken.after by)
+    go (Err e) by told = let no_draft : Drafted d ≡ Open e.account = told.1 in cc
+
+pub drafts_are_by_their_rules : DraftsAreByTheirRules
+drafts_are_by_their_rules lines s out told a stands f table o d taken =
+    let went = lists_are_runs lines s out told in
+    (went.0, drafted_by went.0 f table a o d taken (subst (Went went.0) stands went.1))

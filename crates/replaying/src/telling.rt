@@ -3,7 +3,7 @@ ghost use Rattle.std.specs.Prelude.{◌≡◌, IfErr, IfOk};
 ghost use Rattle.std.specs.IoError.{error_kind};
 ghost use Rattle.replaying.specs.Ledgers.{AllTold, Replayed};
 ghost use Rattle.replaying.specs.Reading.{Entered, texts_of};
-ghost use Rattle.replaying.specs.Runs.{ListsAreRuns};
+ghost use Rattle.replaying.specs.Runs.{DraftsAreByTheirRules, ListsAreRuns};
 
 use crate::entries::{Entry, entries};
 use crate::ledger::take;
@@ -13,11 +13,11 @@ use std::io;
 use std::io::ErrorKind;
 
 // What a ledger says of an input: each line as it came, and behind it what came of it.
-// Every list is a run of its account, of which all is promised that is promised of accounts.
-#[tactic(auto, using(crate::proofs::ListsRun::lists_are_runs))]
+// Every list is a run of its account, with drafts by the rules that its lines name, so that all is promised of it that is promised of accounts.
 pub fn replay(alloc: Global, input: &[u8]) -> io::Result<Vec<u8>>
     ensures replayed { IfOk result (λ out. Replayed input.now out.items) }
     ensures runs { ListsAreRuns }
+    ensures drafts { DraftsAreByTheirRules }
     ensures memory { IfErr result (λ e. error_kind e ≡ ErrorKind.OutOfMemory) }
 {
     let entries = entries(alloc, input)?;
