@@ -2,21 +2,17 @@
 use Rattle.std.proofs.Common.{le_refl, ◌≡◌, ℕ, zero, suc, ◌*◌, ◌^◌, ◌<◌, ◌≤◌, List, [], ◌∷◌, map, length, take, get_or, fold, sym, ◌∙◌, le_trans, le-mul_of_pos_right, mul_assoc, mul-one, mul-le-mul, pow-add, arith}
 use native.Mathlib.Nat.{one-le-pow}
 use Rattle.shapley.proofs.Combinatorics.{choose_le_power}
-use Rattle.std.specs.Array.Iter.{array_into_iter_items, array_steps}
 use Rattle.std.specs.Iterator.Adapters.{zip_first, zip_second}
 use Rattle.std.specs.List.{zip}
-use Rattle.std.proofs.lemmas.Iterator.{YieldsList, YieldsList-from_zip, zips}
-use Rattle.std.proofs.lemmas.Iterator.Consumers.{YieldsList-from_shown}
+use Rattle.std.specs.Slice.Iter.{iter_rest}
+use Rattle.std.proofs.iter.Yields.{fronts}
+use Rattle.std.proofs.lemmas.Iterator.{YieldsList, YieldsList-from_slice, YieldsList-from_zip, zips}
 use Rattle.composition.specs.Counts.{most, total, Inside}
 use Rattle.shapley.specs.Combinations.{choose, ways}
 
--- a chain over two arrays, entry beside entry
-pub paired : {n : ℕ} {s : _} (ms ns : List ℕ) → array_into_iter_items (zip_first s) ≡ ms → array_into_iter_items (zip_second s) ≡ ns
-    → YieldsList (zips (array_steps {A = ℕ} {n = n}) (array_steps {A = ℕ} {n = n})) (λ p. (p.0, p.1)) s (zip ms ns)
-paired ms ns e f = YieldsList-from_zip (entries ms e) (entries ns f)
-  where
-    entries : {n : ℕ} {s : _} (xs : List ℕ) → array_into_iter_items s ≡ xs → YieldsList (array_steps {A = ℕ} {n = n}) (λ x. x) s xs
-    entries {s = s} xs e = rw e at (YieldsList-from_shown array_steps (λ x. x) array_into_iter_items (λ s t e. e.0) (λ s x t e. e) s)
+-- a chain over two slices, entry beside entry
+pub paired : {s : _} (ms ns : List ℕ) → iter_rest (zip_first s) ≡ ms → iter_rest (zip_second s) ≡ ns → YieldsList (zips fronts fronts) (λ p. (p.0.now, p.1.now)) s (zip ms ns)
+paired ms ns e f = YieldsList-from_zip (YieldsList-from_slice ms e) (YieldsList-from_slice ns f)
 
 -- a type's others, and how many of them are picked
 abbrev pub pick : ℕ × ℕ → ℕ

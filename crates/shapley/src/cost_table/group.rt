@@ -38,10 +38,11 @@ impl Group<'_> {
         ensures { result ≡ ways self.now.home.now.others.counts self.now.members.counts }
     {
         let others = self.home.others.counts();
+        let members = self.members.counts();
         others
-            .into_iter()
-            .zip(self.members.counts())
-            .map(|(of, picked)| choose(of, picked))
+            .iter()
+            .zip(&members)
+            .map(|(&of, &picked)| choose(of, picked))
             .product()
     }
 

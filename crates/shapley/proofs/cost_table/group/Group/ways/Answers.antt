@@ -14,7 +14,7 @@ product-requires-clause-can c =
       (tt, tt),
       serves_from_places (YieldsList-at c.map.ensures.source (paired group.home.now.others.counts group.members.counts (search rules) (search rules)))
           (λ x q e. refl)
-          (λ x k below e. let (few, within) = picks_allowed _ _ (others_few group.home.now) group.inside k x below e in search rules),
+          (λ x k below e. let (few, within) = picks_allowed _ _ (others_few group.home.now) group.inside k (x.0.now, x.1.now) below e in search rules),
     )
 
 -- with at most 23 others, no more than 2 ^ 23
