@@ -20,6 +20,8 @@ impl Iterator for Readings<'_> {
     // the half-hours that are left
     ghost remaining = { λ readings. at_most readings.left };
 
+    // Into the walk, so that a half-hour's demands never go through memory.
+    #[inline]
     fn next(&mut self) -> Option<Reading> {
         self.left = self.left.checked_sub(1)?;
         self.tariffs = Tariffs {
@@ -55,8 +57,10 @@ fn demands(words: &mut &[u32], types: u8) -> [u32; 4]
     ensures left { words.new.now ≡ drop types words.old.now }
 {
     let mut demands = [0; 4];
-    for demand in &mut demands[..usize::from(types)] {
-        *demand = first(words);
+    for (place, demand) in demands.iter_mut().enumerate() {
+        if place < usize::from(types) {
+            *demand = first(words);
+        }
     }
     demands
 }
