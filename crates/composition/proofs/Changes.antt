@@ -36,6 +36,12 @@ total_lowered i [] h = absurd (omega arith)
 total_lowered zero (n ∷ ns) h = omega arith
 total_lowered (suc i) (n ∷ ns) h = let t : total (lowered i ns) + 1 ≡ total ns = total_lowered i ns h in omega arith
 
+-- no type has more homes than all types together
+pub count_le_total : (i : ℕ) (ns : List ℕ) → count i ns ≤ total ns
+count_le_total i [] = omega arith
+count_le_total zero (n ∷ ns) = omega arith
+count_le_total (suc i) (n ∷ ns) = let t : count i ns ≤ total ns = count_le_total i ns in omega arith
+
 -- as a program writes it: the count at the position goes up by one, the others stay
 pub set_raised : (i : ℕ) (ns : List ℕ) → set ns i (count i ns + 1) ≡ raised i ns
 set_raised i [] = refl

@@ -62,7 +62,7 @@ count_le_power zero = omega arith
 count_le_power (suc n) = let h : n + 1 ≤ 2 ^ n = count_le_power n in omega (arith, two-pow-succ n)
 
 -- there are no more groups than subsets of the homes
-size_le_power : (ms : List ℕ) → size ms ≤ 2 ^ total ms
+pub size_le_power : (ms : List ℕ) → size ms ≤ 2 ^ total ms
 size_le_power [] = omega arith
 size_le_power (m ∷ ms) = rw (pow-add 2 m (total ms)) (mul-le-mul (count_le_power m) (size_le_power ms))
 

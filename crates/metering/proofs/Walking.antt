@@ -5,7 +5,7 @@ use Rattle.period.proofs.AcceptedPages.{begins}
 use Rattle.period.specs.Filled.{page}
 use Rattle.period.specs.InForce.{given, in_force, padded, readings_after, readings, no_tariffs}
 use Rattle.period.specs.Limits.{most_half_hours, most_value}
-use Rattle.period.specs.Pages.{Entry, TariffWithin, AllWithin, EntriesWithin}
+use Rattle.period.specs.Pages.{Entry, Page, TariffWithin, AllWithin, EntriesWithin, WithinLimits}
 use Rattle.period.specs.declared.period.Period.{Period}
 use Rattle.period.specs.declared.reading.Reading.{Reading}
 use Rattle.period.specs.declared.reading.Tariffs.{Tariffs}
@@ -50,10 +50,11 @@ after_small types before (e ∷ es) i x h =
       after_small types (in_force before e) es import_small export_small h.1,
     )
 
+pub page_small : (p : Page) → WithinLimits p → ReadingsSmall (readings p)
+page_small p within = after_small p.types no_tariffs p.entries (omega arith) (omega arith) within.entries_within
+
 pub readings_small : (p : Period) → ReadingsSmall (readings (page p))
-readings_small p =
-    let within = (begins p.words.now p.accepted).within in
-    after_small (page p).types no_tariffs (page p).entries (omega arith) (omega arith) within.entries_within
+readings_small p = page_small (page p) (begins p.words.now p.accepted).within
 
 -- there are as many as half-hours
 pub as_many : (before : Tariffs) (es : List Entry) → length (readings_after before es) ≡ length es

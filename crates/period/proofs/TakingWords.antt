@@ -8,12 +8,12 @@ use Rattle.period.specs.declared.refusals.Part.{Part}
 use Rattle.period.specs.declared.slot.Slot.{Slot}
 
 -- what follows a word that must stand there
-abbrev or_offends : Part → (ℕ → Reader) → Option ℕ → Reader
+abbrev pub or_offends : Part → (ℕ → Reader) → Option ℕ → Reader
 or_offends part next (Some v) ws place = next v ws place
 or_offends part next None ws place = offends part place
 
 -- a word that must stand there is one that may, and offends if it does not
-must_is_may : (s : Slot) (next : ℕ → Reader) (ws : List ℕ) (place : ℕ) → wanted s next ws place ≡ maybe_in s (or_offends s.part next) ws place
+pub must_is_may : (s : Slot) (next : ℕ → Reader) (ws : List ℕ) (place : ℕ) → wanted s next ws place ≡ maybe_in s (or_offends s.part next) ws place
 must_is_may s next [] place = refl
 must_is_may s next (w ∷ ws) place = refl
 

@@ -1,5 +1,5 @@
 -- Euclid's steps give the greatest common divisor, and so `lcm_to` the least common multiple.
-use Rattle.std.proofs.Common.{inl, inr, ◌≡◌, ℕ, zero, suc, ◌+◌, ◌*◌, ◌/◌, ◌%◌, ◌<◌, ◌≤◌, leb, sym, refl, ap, ◌∙◌, subst, mod-lt, mul_assoc, mul_comm, mul-pos, mul-zero, zero-mul, div-add-mod', mul-add, mul_left_comm, mul-one, arith}
+use Rattle.std.proofs.Common.{inl, inr, ◌≡◌, ℕ, zero, suc, ◌+◌, ◌*◌, ◌/◌, ◌%◌, ◌<◌, ◌≤◌, leb, ◌⊎◌, sym, refl, ap, ◌∙◌, subst, mod-lt, mul_assoc, mul_comm, add-mul, mul-pos, one-mul, mul-zero, zero-mul, div-add-mod', mul-add, mul_left_comm, mul-one, arith}
 use Rattle.std.proofs.lemmas.Bool.{leb-true}
 use native.Mathlib.Nat.{le-suc_iff, dvd_trans, dvd-mul_left, dvd-mul_right_of_dvd, dvd-add_iff_right, mul-dvd-mul_left, mul-dvd-mul_right, dvd_of_mul-dvd-mul_left, div-mul_cancel}
 use Rattle.std.specs.Int.{◌∣◌, IsGcd}
@@ -25,6 +25,53 @@ euclid zero a b h = absurd (omega arith)
 euclid (suc steps) a zero h = IsGcd-from_zero a 0 refl
 euclid (suc steps) a (suc b) h =
     IsGcd-from_mod a (suc b) (gcd_steps steps (suc b) (a % suc b)) (euclid steps (suc b) (a % suc b) (less a b steps h))
+
+pub divides_trans : (a b c : ℕ) → Divides a b → Divides b c → Divides a c
+divides_trans a b c (p, h) (q, k) = (q * p, mul_assoc q p a ∙ ap (λ (x : ℕ). q * x) h ∙ k)
+
+-- the number g divides a and b, and is a difference of multiples of them, one way round or the other
+pub record GreatestCommonDivisor (a b g : ℕ) : Type 0 where
+  pub left : Divides g a
+  pub right : Divides g b
+  pub s : ℕ
+  pub t : ℕ
+  pub combined : (s * a ≡ t * b + g) ⊎ (t * b ≡ s * a + g)
+
+-- a step of Euclid's, taken back: what divides b and the rest of a divides a, and a combination of them is one of a and b
+step_back : (a b q r g : ℕ) → q * b + r ≡ a → GreatestCommonDivisor b r g → GreatestCommonDivisor a b g
+step_back a b q r g e c =
+    record {
+      left = whole c.left c.right;
+      right = c.left;
+      s = c.t;
+      t = c.s + c.t * q;
+      combined = turned c.s c.t c.combined;
+    }
+  where
+    whole : Divides g b → Divides g r → Divides g a
+    whole (u, h) (v, k) =
+        (q * u + v, add-mul (q * u) v g ∙ ap (λ (x : ℕ). x + v * g) (mul_assoc q u g ∙ ap (λ (x : ℕ). q * x) h) ∙ ap (λ (x : ℕ). q * b + x) k ∙ e)
+
+    more : (s t : ℕ) → (s + t * q) * b ≡ s * b + t * (q * b)
+    more s t = add-mul s (t * q) b ∙ ap (λ (x : ℕ). s * b + x) (mul_assoc t q b)
+
+    all : (t : ℕ) → t * a ≡ t * (q * b) + t * r
+    all t = ap (λ (x : ℕ). t * x) (sym e) ∙ mul-add t (q * b) r
+
+    turned : (s t : ℕ) → (s * b ≡ t * r + g) ⊎ (t * r ≡ s * b + g) → (t * a ≡ (s + t * q) * b + g) ⊎ ((s + t * q) * b ≡ t * a + g)
+    turned s t (inl h) = inr (omega (arith, more s t, all t))
+    turned s t (inr h) = inl (omega (arith, more s t, all t))
+
+-- so Euclid's steps end in such a combination
+combination : (steps a b : ℕ) → b < steps → GreatestCommonDivisor a b (gcd_steps steps a b)
+combination zero a b h = absurd (omega arith)
+combination (suc steps) a zero h = record { left = (1, one-mul a); right = (0, zero-mul a); s = 1; t = 0; combined = inl (omega arith) }
+combination (suc steps) a (suc b) h =
+    step_back a (suc b) (a / suc b) (a % suc b) (gcd_steps steps (suc b) (a % suc b)) (div-add-mod' a (suc b))
+    (combination steps (suc b) (a % suc b) (less a b steps h))
+
+pub gcd_is_greatest : (a b : ℕ) → GreatestCommonDivisor a b (gcd a b)
+gcd_is_greatest a b = combination (suc b) a b (omega arith)
 
 -- what divides m times a and m times b divides m times their greatest common divisor
 scaled : (steps a b d m : ℕ) → b < steps → d ∣ m * a → d ∣ m * b → d ∣ m * gcd_steps steps a b

@@ -1,5 +1,5 @@
 -- Sums over the places of a table are sums over the groups that stand there.
-use Rattle.std.proofs.Common.{◌≡◌, ℕ, zero, suc, ◌+◌, ◌*◌, ◌/◌, ◌%◌, ◌<◌, List, [], ◌∷◌, ℤ, pos, ◌+ℤ◌, sym, refl, ap, ◌∙◌, add-zero, add-suc, suc-mul, mul_comm, zero-mul, add-one, arith}
+use Rattle.std.proofs.Common.{◌≡◌, ℕ, zero, suc, ◌+◌, ◌*◌, ◌/◌, ◌%◌, ◌<◌, List, [], ◌∷◌, ℤ, pos, ◌+ℤ◌, sym, refl, ap, ◌∙◌, ap₂, add-zero, add-suc, suc-mul, mul_comm, zero-mul, add-one, arith}
 use lib.IntN.{+ℤ_assoc, +ℤ_idl, +ℤ_idr}
 use Rattle.std.proofs.lemmas.Nat.{div-mul-add, mod-mul-add}
 use Rattle.composition.specs.Counts.{size, at_place}
@@ -9,6 +9,14 @@ use Rattle.shapley.specs.Shares.{range_sum, box_sum}
 abbrev pub place_sum : ℕ → (ℕ → ℤ) → ℤ
 place_sum zero g = pos 0
 place_sum (suc n) g = place_sum n g +ℤ g n
+
+-- one place more, as a loop counts
+place_sum_more : (n : ℕ) (g : ℕ → ℤ) → place_sum (n + 1) g ≡ place_sum n g +ℤ g n
+place_sum_more n g = rw (add-one n)
+
+-- a loop's turn: the sum so far and what stands at the place
+pub place_sum_step : (n : ℕ) (g : ℕ → ℤ) (s t r : ℤ) → s ≡ place_sum n g → t ≡ g n → r ≡ s +ℤ t → r ≡ place_sum (n + 1) g
+place_sum_step n g s t r e f h = h ∙ ap₂ (λ (x y : ℤ). x +ℤ y) e f ∙ sym (place_sum_more n g)
 
 same_sum : (n : ℕ) (f g : ℕ → ℤ) → ((k : ℕ) → k < n → f k ≡ g k) → place_sum n f ≡ place_sum n g
 same_sum zero f g e = refl

@@ -30,12 +30,12 @@ ways_small : (ms ns : List ℕ) → total ms ≤ 23 → ways ms ns ≤ 2 ^ 23
 ways_small ms ns h = le_trans (ways_le_power ms ns) (pow_mono h)
 
 -- a weight is at most the least common multiple, which is below 2 ^ 33
-factor_small : (n j : ℕ) (ms ns : List ℕ) → n ≤ 24 → total ms ≤ 23 → weight n j * ways ms ns ≤ 2 ^ 56
+pub factor_small : (n j : ℕ) (ms ns : List ℕ) → n ≤ 24 → total ms ≤ 23 → weight n j * ways ms ns ≤ 2 ^ 56
 factor_small n j ms ns h k =
     le_trans (mul-le-mul (le_trans (weight_le_lcm n j) (lcm_to_small n h)) (ways_small ms ns k)) (omega arith)
 
 -- so many times what is at most 2 ^ 30, on either side of 0
-times_small : (f : ℕ) (z : ℤ) → f ≤ 2 ^ 56 → Between (2 ^ 30) z → Between (2 ^ 86) (pos f *ℤ z)
+pub times_small : (f : ℕ) (z : ℤ) → f ≤ 2 ^ 56 → Between (2 ^ 30) z → Between (2 ^ 86) (pos f *ℤ z)
 times_small f z h (low, high) =
     let s : (pos f *ℤ neg_ℤ (pos (2 ^ 30))) ≤ℤ (pos f *ℤ z) = scale_≤ f (neg_ℤ (pos (2 ^ 30))) z low in
     let t : (pos f *ℤ z) ≤ℤ (pos f *ℤ pos (2 ^ 30)) = scale_≤ f z (pos (2 ^ 30)) high in
