@@ -55,9 +55,12 @@ fn the_sum_is_divided_once_and_rounded_down(rt: HostRuntime) -> Result<(), Fail>
 
 // 24 homes of four types, 20,000 watt-hours each, in each of 17,568 half-hours: 8,432,640,000. Demanded, they are imported. Generated, those of the first five
 // half-hours fill the battery, which holds 24 x 100,000, and 8,430,240,000 are exported. At 1 for 1,000 that costs 8,432,640, or brings in 8,430,240; at the highest tariffs
-// either lies outside the limits.
+// either lies outside the limits. 24 homes of one type, under a tariff of 1 that is given once and holds for 366 days, cost the same.
 #[test]
 fn the_largest_walk_does_not_overflow(rt: HostRuntime) -> Result<(), Fail> {
+    let mut words = leap_year(20_000);
+    words[7] = 0x40000001;
+    assert_eq!(rt; grid_cost(&words, [24, 0, 0, 0])?, Ok(8_432_640));
     assert_eq!(rt; grid_cost(&longest(1, 20_000, 0), [6; 4])?, Ok(8_432_640));
     assert_eq!(rt; grid_cost(&longest(1, 0, 20_000), [6; 4])?, Ok(-8_430_240));
     assert_eq!(rt; grid_cost(&longest(20_000, 20_000, 0), [6; 4])?, Err(10));
