@@ -19,6 +19,11 @@ impl<T: Tally> MeteredRule<'_, T> {
         ensures { result ≡ T.Tally.meaning self.now.tally (half_hours_of (page self.now.period) (group_of group.now.counts)) }
     {
         let battery = self.period.battery();
+        // Never so, since a battery is rated. It is said once before the walk, so that no half-hour tests a divisor: a tally that leaves the battery out
+        // then pays nothing for it.
+        if battery.rating.charging == 0 || battery.rating.discharging == 0 {
+            unreachable!();
+        }
         let mut charge = u32::from(group.homes()) * battery.rating.lowest;
         let mut so_far = self.tally.start();
         for reading in self.period.readings() {
